@@ -1,0 +1,4 @@
+pub mod Sequence
+pub mod Lower
+pub mod Frame
+pub mod Adds

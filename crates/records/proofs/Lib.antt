@@ -1,0 +1,4 @@
+pub mod Sequence
+pub mod Leaves
+pub mod Letters
+pub mod Choices

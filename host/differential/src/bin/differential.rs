@@ -1,0 +1,78 @@
+//! `differential CALL [SIZE] [SEED]`: compare the static library with the
+//! Rust, or for `records` with the plain reader. Ends with status 1 where
+//! anything differs.
+
+use std::env;
+use std::process::ExitCode;
+use std::time::Instant;
+
+use differential::report::Report;
+use differential::subject::Library;
+use differential::{NO_ORACLE, classify, lift, oracle, records};
+
+const USAGE: &str = "differential classify|records|lift [SIZE] [SEED]";
+
+/// Sizes of the full runs.
+const CLASSIFY: u64 = 3_500_000;
+const RECORDS: u64 = 1_500_000;
+const SEQUENCES: u64 = 200_000;
+
+fn main() -> ExitCode {
+    let words: Vec<String> = env::args().skip(1).collect();
+    let (Some(call), Some(size), Some(seed)) =
+        (words.first(), number(&words, 1), number(&words, 2))
+    else {
+        return usage();
+    };
+    if !sleetgate_sys::at_hand() {
+        return failure(sleetgate_sys::MISSING);
+    }
+    let seed = seed.unwrap_or(1);
+    let start = Instant::now();
+    let report = match call.as_str() {
+        "classify" => with_oracle(|| classify::run(&Library, size.unwrap_or(CLASSIFY), seed)),
+        "records" => Some(records::run(&Library, size.unwrap_or(RECORDS), seed)),
+        "lift" if !sleetgate_sys::has_lift() => return failure(sleetgate_sys::MISSING_LIFT),
+        "lift" => with_oracle(|| lift::run(&Library, size.unwrap_or(SEQUENCES), seed)),
+        _ => return usage(),
+    };
+    let Some(report) = report else {
+        return ExitCode::SUCCESS;
+    };
+    println!("{call}, seed {seed}: {report}");
+    println!("{:.1} s", start.elapsed().as_secs_f64());
+    if report.is_equal() {
+        ExitCode::SUCCESS
+    } else {
+        ExitCode::FAILURE
+    }
+}
+
+fn failure(why: &str) -> ExitCode {
+    eprintln!("{why}");
+    ExitCode::FAILURE
+}
+
+/// A run that needs the oracle: without it, only a line that says so.
+fn with_oracle(run: impl FnOnce() -> Report) -> Option<Report> {
+    if oracle::at_hand() {
+        return Some(run());
+    }
+    println!("{NO_ORACLE}");
+    None
+}
+
+/// The number that stands as the word `at`: none where there is no such
+/// word, and nothing at all where it is no number.
+#[allow(clippy::option_option)]
+fn number(words: &[String], at: usize) -> Option<Option<u64>> {
+    match words.get(at) {
+        None => Some(None),
+        Some(word) => word.parse().ok().map(Some),
+    }
+}
+
+fn usage() -> ExitCode {
+    eprintln!("{USAGE}");
+    ExitCode::from(2)
+}

@@ -1,0 +1,97 @@
+//! What classify and effect are expected to answer: the refusals as
+//! document 01 says them, all else as the Rust says it.
+
+use plain::{DECLINED, FLAT, Instruction, MODELLED, REGISTER, TOO_SHORT, refusal};
+
+use crate::oracle;
+
+/// Words that a case may lend.
+pub const LENT: usize = 12;
+
+/// What the lent words hold before a call.
+pub const BEFORE: [u64; LENT] = {
+    let mut words = [0; LENT];
+    let mut i = 0;
+    while i < LENT {
+        words[i] = 0xa5a5_5a5a_0000_0000 + i as u64;
+        i += 1;
+    }
+    words
+};
+
+/// A number, and the lent words after the call.
+#[derive(Debug, Clone, Copy, PartialEq, Eq)]
+pub struct Answer {
+    pub number: u32,
+    pub words: [u64; LENT],
+}
+
+impl Answer {
+    /// The number with these words first, and the others as they were.
+    fn new(number: u32, first: &[u64]) -> Self {
+        let mut words = BEFORE;
+        words[..first.len()].copy_from_slice(first);
+        Self { number, words }
+    }
+}
+
+/// What `classify` gives for `flat` with `room` words lent.
+#[must_use]
+pub fn classify(flat: &[u8], room: usize) -> Answer {
+    answer(flat, room, oracle::classify)
+}
+
+/// What `effect` gives for `flat` with `room` words lent.
+#[must_use]
+pub fn effect(flat: &[u8], room: usize) -> Answer {
+    answer(flat, room, |insn| {
+        oracle::effect(insn).map(|flags| flags.map(u64::from))
+    })
+}
+
+/// Too short, then refused, then what the oracle says in `N` words.
+fn answer<const N: usize>(
+    flat: &[u8],
+    room: usize,
+    oracle: impl Fn(&Instruction) -> Option<[u64; N]>,
+) -> Answer {
+    let Ok(flat) = <&[u8; FLAT]>::try_from(flat) else {
+        return Answer::new(TOO_SHORT, &[]);
+    };
+    if room < N {
+        return Answer::new(TOO_SHORT, &[]);
+    }
+    let insn = Instruction::from_flat(flat);
+    if let Some(number) = refusal(&insn) {
+        return Answer::new(number, &[0; N]);
+    }
+    match oracle(&insn) {
+        Some(words) => Answer::new(MODELLED, &words),
+        None => Answer::new(DECLINED, &[0; N]),
+    }
+}
+
+/// Whether the effect of an instruction is outside the domain of
+/// equality: a status store whose `ax` has blanks around it.
+#[must_use]
+pub fn blanks_around_ax(flat: &[u8]) -> bool {
+    let Ok(flat) = <&[u8; FLAT]>::try_from(flat) else {
+        return false;
+    };
+    let insn = Instruction::from_flat(flat);
+    let name = blank_trimmed(insn.mnemonic.used()).to_ascii_lowercase();
+    let text = insn.operands[0].text.used();
+    (name == b"fnstsw" || name == b"fstsw")
+        && insn.count == 1
+        && insn.operands[0].kind == REGISTER
+        && !text.eq_ignore_ascii_case(b"ax")
+        && blank_trimmed(text).eq_ignore_ascii_case(b"ax")
+}
+
+/// Document 01's trim: bytes 9 to 13 and 32 at both ends.
+fn blank_trimmed(text: &[u8]) -> &[u8] {
+    let blank = |b: &u8| matches!(b, 9..=13 | 32);
+    let from = text.iter().position(|b| !blank(b)).unwrap_or(text.len());
+    let to = text.iter().rposition(|b| !blank(b)).map_or(from, |i| i + 1);
+    &text[from..to]
+}

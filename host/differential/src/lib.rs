@@ -1,0 +1,47 @@
+//! The proved crates, linked as a static library, compared with the Rust
+//! they are a port of, and with document 01 said plainly.
+
+use std::io::Write as _;
+
+pub mod classify;
+pub mod expect;
+pub mod inputs;
+pub mod instructions;
+#[cfg(not(no_oracle))]
+pub mod lift;
+pub mod names;
+pub mod operands;
+pub mod records;
+pub mod report;
+pub mod rng;
+pub mod sample;
+#[cfg(not(no_oracle))]
+pub mod sample_lifts;
+pub mod sequences;
+#[cfg(not(no_oracle))]
+pub mod steps;
+pub mod stored;
+pub mod subject;
+#[cfg(not(no_oracle))]
+pub mod trees;
+pub mod wellformed;
+
+#[cfg(not(no_oracle))]
+pub mod oracle;
+
+#[cfg(no_oracle)]
+#[path = "absent.rs"]
+pub mod oracle;
+
+#[cfg(no_oracle)]
+#[path = "absent_lift.rs"]
+pub mod lift;
+
+/// Say that a test is left out, past the test harness's capture.
+pub fn left_out(why: &str) {
+    // A line that cannot be written is no reason to fail.
+    let _ = writeln!(std::io::stderr(), "left out: {why}");
+}
+
+/// What is said where the r2SMT sources are not at hand.
+pub const NO_ORACLE: &str = "r2SMT sources not at hand: the stored answers are the test";

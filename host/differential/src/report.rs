@@ -1,0 +1,90 @@
+//! What a run gives: counts, and the first difference in full.
+
+use std::fmt;
+
+/// Document 01's numbers, from 0 on.
+const NUMBERS: [&str; 14] = [
+    "modelled, or a record or the end",
+    "declined, unmodelled form",
+    "declined, overflow",
+    "text",
+    "count, kind or flag",
+    "state",
+    "no room for nodes",
+    "no room for statements",
+    "sort",
+    "value",
+    "slices too short",
+    "wrong mark",
+    "ends early",
+    "input too long",
+];
+
+/// The counts of a run.
+#[derive(Debug, Default, Clone)]
+pub struct Report {
+    /// How many cases were compared.
+    pub compared: u64,
+    /// How many of them expect each number.
+    pub numbers: [u64; NUMBERS.len()],
+    /// Further counts, by name.
+    pub notes: Vec<(&'static str, u64)>,
+    /// How many differed.
+    pub differences: u64,
+    /// The first difference, with its input.
+    pub first: Option<String>,
+}
+
+impl Report {
+    /// Count a case that expects `number`.
+    pub fn count(&mut self, number: u32) {
+        self.compared += 1;
+        self.numbers[number as usize] += 1;
+    }
+
+    /// Add to a named count.
+    pub fn note(&mut self, name: &'static str, more: u64) {
+        match self.notes.iter_mut().find(|(n, _)| *n == name) {
+            Some((_, count)) => *count += more,
+            None => self.notes.push((name, more)),
+        }
+    }
+
+    /// Count a difference, and keep the first.
+    pub fn differs(&mut self, say: impl FnOnce() -> String) {
+        self.differences += 1;
+        if self.first.is_none() {
+            self.first = Some(say());
+        }
+    }
+
+    #[must_use]
+    pub fn is_equal(&self) -> bool {
+        self.differences == 0
+    }
+}
+
+impl fmt::Display for Report {
+    fn fmt(&self, f: &mut fmt::Formatter<'_>) -> fmt::Result {
+        writeln!(f, "compared {}", self.compared)?;
+        for (number, (count, name)) in self.numbers.iter().zip(NUMBERS).enumerate() {
+            if *count != 0 {
+                writeln!(f, "  expecting {number} ({name}): {count}")?;
+            }
+        }
+        for (name, count) in &self.notes {
+            writeln!(f, "  {name}: {count}")?;
+        }
+        writeln!(f, "different {}", self.differences)?;
+        match &self.first {
+            Some(first) => write!(f, "the first difference:\n{first}"),
+            None => Ok(()),
+        }
+    }
+}
+
+/// Bytes in hexadecimal.
+#[must_use]
+pub fn hex(bytes: &[u8]) -> String {
+    bytes.iter().map(|b| format!("{b:02x}")).collect()
+}

@@ -1,0 +1,30 @@
+//! Document 01 said plainly in Rust: what an instruction is and how it
+//! lies in bytes, which instructions are refused, how records are read,
+//! and which states are valid. Written for being read, not for speed.
+
+mod flat;
+mod reader;
+mod refusals;
+pub mod state;
+
+pub use flat::{FLAT, Instruction, OPERANDS, Operand, TEXT, Text};
+pub use reader::{Outcome, read, record};
+pub use refusals::refusal;
+
+/// Kinds of an operand.
+pub const REGISTER: u8 = 0;
+pub const MEMORY: u8 = 1;
+pub const OTHER: u8 = 2;
+
+/// Numbers that calls give back.
+pub const MODELLED: u32 = 0;
+pub const DECLINED: u32 = 1;
+pub const OVERFLOWED: u32 = 2;
+pub const BAD_TEXT: u32 = 3;
+pub const BAD_SHAPE: u32 = 4;
+pub const BAD_STATE: u32 = 5;
+pub const NO_NODES: u32 = 6;
+pub const NO_STATEMENTS: u32 = 7;
+pub const TOO_SHORT: u32 = 10;
+pub const WRONG_MARK: u32 = 11;
+pub const ENDS_EARLY: u32 = 12;

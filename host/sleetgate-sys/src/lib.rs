@@ -1,0 +1,86 @@
+//! Safe binding to the static library of the proved crates.
+//!
+//! A lent slice passes as a pointer and a length. The library is total:
+//! it answers 10 where a slice is too short, and writes nothing then. The
+//! functions here test the lengths themselves before they call it; those
+//! in [`untested`] hand over any slices as they are, so that the
+//! library's own tests can be compared.
+
+/// Bytes of an instruction.
+pub const FLAT: usize = 177;
+/// Words of a form.
+pub const FORM: usize = 8;
+/// Answers of an effect.
+pub const EFFECT: usize = 7;
+/// Words that reading a record gives beside the instruction.
+pub const READ: usize = 2;
+/// Words of a state.
+pub const STATE: usize = 13;
+
+/// The answer where a lent slice is too short.
+pub const TOO_SHORT: u32 = 10;
+
+/// Whether the library was there when this was built.
+#[must_use]
+pub fn at_hand() -> bool {
+    cfg!(not(no_library))
+}
+
+/// Whether the library exports the lifter.
+#[must_use]
+pub fn has_lift() -> bool {
+    cfg!(not(any(no_library, no_lift)))
+}
+
+/// What is said where the library is not there.
+pub const MISSING: &str = "the static library of the proved crates is not there; \
+                           build it by: rt staticlib export";
+
+/// What is said where the library has no lifter.
+pub const MISSING_LIFT: &str = "the static library does not export x87_lift";
+
+/// Classify the 177 bytes of an instruction. The first eight words of
+/// `out` become the form; words beyond stay.
+pub fn classify(flat: &[u8], out: &mut [u64]) -> u32 {
+    if flat.len() != FLAT || out.len() < FORM {
+        return TOO_SHORT;
+    }
+    untested::classify(flat, out)
+}
+
+/// The effect of the 177 bytes of an instruction. The first seven words
+/// of `out` become 0 or 1; words beyond stay.
+pub fn effect(flat: &[u8], out: &mut [u64]) -> u32 {
+    if flat.len() != FLAT || out.len() < EFFECT {
+        return TOO_SHORT;
+    }
+    untested::effect(flat, out)
+}
+
+/// Read one record of `input` at `at`. The first two words of `out`
+/// become the next or the offending place, and whether a record was
+/// read; the first 177 bytes of `flat` become the instruction then.
+pub fn read_record(input: &[u8], at: usize, flat: &mut [u8], out: &mut [u64]) -> u32 {
+    if flat.len() < FLAT || out.len() < READ {
+        return TOO_SHORT;
+    }
+    untested::read_record(input, at, flat, out)
+}
+
+/// Lift the 177 bytes of an instruction. The first 13 words of `state`
+/// become the next state: eight slots, depth, nodes, statements, inputs,
+/// temporaries. The lists are rows of four words.
+pub fn lift(flat: &[u8], state: &mut [u64], nodes: &mut [u64], statements: &mut [u64]) -> u32 {
+    if flat.len() != FLAT || state.len() < STATE {
+        return TOO_SHORT;
+    }
+    untested::lift(flat, state, nodes, statements)
+}
+
+#[cfg(not(no_library))]
+#[path = "linked.rs"]
+pub mod untested;
+
+#[cfg(no_library)]
+#[path = "missing.rs"]
+pub mod untested;
