@@ -1,0 +1,38 @@
+-- The lift of one instruction, with its refusals
+use mathlib.Core.Bool.{cond}
+use mathlib.Core.List.{List}
+use Prim.Native.Nat.{ℕ}
+use lib.Dec.{leb}
+use lib.ListN.{length}
+use Rattle.lists.specs.Rows.{roomOf}
+use Rattle.lists.specs.Steps.{Built, gives}
+use Rattle.lists.specs.Valid.{validOf}
+use Rattle.lists.specs.declared.State.{State}
+use Rattle.forms.specs.Classify.{classifyOf}
+use Rattle.forms.specs.declared.Instruction.{Instruction}
+use Rattle.forms.specs.declared.Classified.{Classified}
+use Rattle.forms.specs.declared.Classified.the-variants.{Modelled, Declined, BadText, BadOperands}
+use Rattle.lifter.specs.Site.{siteOf}
+use Rattle.lifter.specs.Apply.{applyX87Of, declineX87Of}
+use Rattle.lifter.specs.declared.Site.{Site}
+
+-- What an instruction comes to over lists of any length: 0 or 2, 1, 3, 4
+unfoldable pub loweredOf : State → Classified → Site → Built
+loweredOf s (Modelled form) site = applyX87Of s form site
+loweredOf s Declined site = declineX87Of s 1 (site .address)
+loweredOf s BadText site = gives s 3
+loweredOf s BadOperands site = gives s 4
+
+-- Nothing is done where the whole does not fit: 6 for the nodes, 7 for the statements
+unfoldable pub fittingOf : Built → State → List ℕ → List ℕ → Built
+fittingOf b s nodes statements =
+    cond (leb (b .st .nodes) (roomOf (length nodes)))
+    (cond (leb (b .st .statements) (roomOf (length statements))) b (gives s 7))
+    (gives s 6)
+
+-- Nor where the state is not valid: 5
+unfoldable pub liftOf : State → Instruction → List ℕ → List ℕ → Built
+liftOf s insn nodes statements =
+    cond (validOf s (roomOf (length nodes)) (roomOf (length statements)))
+    (fittingOf (loweredOf s (classifyOf insn) (siteOf insn)) s nodes statements)
+    (gives s 5)
