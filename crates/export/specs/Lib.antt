@@ -1,0 +1,3 @@
+pub mod Flat
+pub mod Answers
+pub mod Lifts
