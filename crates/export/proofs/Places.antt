@@ -9,11 +9,16 @@ use lib.ListN.{length, take, drop, getD, set, length-drop, length-append}
 use lib.Seq.{sets, take-suc, take-suc-set, take-all, getD-drop, length-take-le, length-sets}
 use Rattle.export.specs.Flat.{numberIn, laid, low}
 
-pub number-more : (l : List ℕ) (p n v : ℕ) → (n ≡ 0 → ⊥) → v ≡ numberIn l (p + 1) (n - 1) → getD l p 0 + 256 * v ≡ numberIn l p n
-number-more l p zero v h e = absurd (h refl)
-number-more l p (suc k) v h e =
-    let q : suc k - 1 ≡ k = omega arith in
-    rw (rw q at e)
+-- a number of four bytes is two of two, and one of eight two of four
+pub four-bytes : (l : List ℕ) (p a b : ℕ) → a ≡ numberIn l p 2 → b ≡ numberIn l (p + 2) 2 → a + 65536 * b ≡ numberIn l p 4
+four-bytes l p a b e f =
+    let q : p + 1 + 1 ≡ p + 2 = omega arith in
+    rw (e, f, q) (omega arith)
+
+pub eight-bytes : (l : List ℕ) (p a b : ℕ) → a ≡ numberIn l p 4 → b ≡ numberIn l (p + 4) 4 → a + 4294967296 * b ≡ numberIn l p 8
+eight-bytes l p a b e f =
+    let q : p + 1 + 1 + 1 + 1 ≡ p + 4 = omega arith in
+    rw (e, f, q) (omega arith)
 
 pub copy-on : (s b : List ℕ) (p i : ℕ) → p + i < length s → i < length b → take i b ≡ take i (drop p s) → take (i + 1) (set b i (getD s (p + i) 0)) ≡ take (i + 1) (drop p s)
 copy-on s b p i h k e =

@@ -7,16 +7,26 @@ use forms::Instruction;
 use forms::Operand;
 use texts::Text;
 
-// The number of `n` bytes at a place.
-fn number(s: &[u8], at: usize, n: usize) -> u64
-    requires { ⌜ (n ≤ 8) × (at + n ≤ length (now s)) ⌝ }
-    ensures { λ r. ⌜ (r ≡ numberIn (now (s .entry)) at n) × (r < 256 ^ n) ⌝ }
+// The number of two bytes at a place; of four; of eight.
+fn two(s: &[u8], at: usize) -> u64
+    requires { ⌜ at + 2 ≤ length (now s) ⌝ }
+    ensures { λ r. ⌜ (r ≡ numberIn (now (s .entry)) at 2) × (r < 65536) ⌝ }
 {
-    if n == 0 {
-        return 0;
-    }
-    let rest = number(s, at + 1, n - 1);
-    s[at] as u64 + 256 * rest
+    s[at] as u64 + 256 * (s[at + 1] as u64)
+}
+
+fn four(s: &[u8], at: usize) -> u64
+    requires { ⌜ at + 4 ≤ length (now s) ⌝ }
+    ensures { λ r. ⌜ (r ≡ numberIn (now (s .entry)) at 4) × (r < 4294967296) ⌝ }
+{
+    two(s, at) + 65536 * two(s, at + 2)
+}
+
+fn eight(s: &[u8], at: usize) -> u64
+    requires { ⌜ at + 8 ≤ length (now s) ⌝ }
+    ensures { λ r. ⌜ r ≡ numberIn (now (s .entry)) at 8 ⌝ }
+{
+    four(s, at) + 4294967296 * four(s, at + 4)
 }
 
 // The 32 bytes at a place.
@@ -50,9 +60,9 @@ fn operand(s: &[u8], at: usize) -> Operand
     ensures { λ r. ⌜ r ≡ operandIn (now (s .entry)) at ⌝ }
 {
     let t = text(s, at + 1);
-    let width = number(s, at + 34, 2);
-    let address = number(s, at + 37, 4);
-    let slot = number(s, at + 41, 4);
+    let width = two(s, at + 34);
+    let address = four(s, at + 37);
+    let slot = four(s, at + 41);
     Operand {
         kind: s[at],
         text: t,
@@ -68,7 +78,7 @@ pub(crate) fn read(s: &[u8]) -> Instruction
     requires { ⌜ length (now s) ≡ 177 ⌝ }
     ensures { λ r. ⌜ r ≡ insnOf (now (s .entry)) ⌝ }
 {
-    let address = number(s, 0, 8);
+    let address = eight(s, 0);
     let m = text(s, 8);
     let a = operand(s, 42);
     let b = operand(s, 87);

@@ -19,11 +19,38 @@ use Rattle.exprs.specs.Status.{x87StatusWordOf}
 
 pub extended-from-memory-adds : (s : State) (image free : ℕ) → Adds s 16 0 (extendedFromMemoryOf s image free)
 unfolding extendedFromMemoryOf
-extended-from-memory-adds s image free = next _ (node-adds _ _ _ _ _) (λ s _. next _ (node-adds _ _ _ _ _) (λ s _. next _ (node-adds _ _ _ _ _) (λ s _. next _ (node-adds _ _ _ _ _) (λ s _. next _ (node-adds _ _ _ _ _) (λ s _. next _ (node-adds _ _ _ _ _) (λ s _. next _ (node-adds _ _ _ _ _) (λ s _. next _ (node-adds _ _ _ _ _) (λ s _. next _ (node-adds _ _ _ _ _) (λ s _. next _ (node-adds _ _ _ _ _) (λ s _. next _ (node-adds _ _ _ _ _) (λ s _. next _ (node-adds _ _ _ _ _) (λ s _. next _ (node-adds _ _ _ _ _) (λ s _. next _ (node-adds _ _ _ _ _) (λ s _. next _ (node-adds _ _ _ _ _) (λ s _. node-adds _ _ _ _ _)))))))))))))))
+extended-from-memory-adds s image free =
+    next _ (node-adds _ _ _ _ _) (λ s sign.
+    next _ (node-adds _ _ _ _ _) (λ s exponent.
+    next _ (node-adds _ _ _ _ _) (λ s integer.
+    next _ (node-adds _ _ _ _ _) (λ s fraction.
+    next _ (node-adds _ _ _ _ _) (λ s zero.
+    next _ (node-adds _ _ _ _ _) (λ s zero-exponent.
+    next _ (node-adds _ _ _ _ _) (λ s one.
+    next _ (node-adds _ _ _ _ _) (λ s leading.
+    next _ (node-adds _ _ _ _ _) (λ s not-leading.
+    next _ (node-adds _ _ _ _ _) (λ s denormal.
+    next _ (node-adds _ _ _ _ _) (λ s not-zero.
+    next _ (node-adds _ _ _ _ _) (λ s normal.
+    next _ (node-adds _ _ _ _ _) (λ s canonical.
+    next _ (node-adds _ _ _ _ _) (λ s low.
+    next _ (node-adds _ _ _ _ _) (λ s pattern.
+    node-adds _ _ _ _ _)))))))))))))))
 
 pub extended-to-memory-adds : (s : State) (pattern : ℕ) → Adds s 11 0 (extendedToMemoryOf s pattern)
 unfolding extendedToMemoryOf
-extended-to-memory-adds s pattern = next _ (node-adds _ _ _ _ _) (λ s _. next _ (node-adds _ _ _ _ _) (λ s _. next _ (node-adds _ _ _ _ _) (λ s _. next _ (node-adds _ _ _ _ _) (λ s _. next _ (node-adds _ _ _ _ _) (λ s _. next _ (node-adds _ _ _ _ _) (λ s _. next _ (node-adds _ _ _ _ _) (λ s _. next _ (node-adds _ _ _ _ _) (λ s _. next _ (node-adds _ _ _ _ _) (λ s _. next _ (node-adds _ _ _ _ _) (λ s _. node-adds _ _ _ _ _))))))))))
+extended-to-memory-adds s pattern =
+    next _ (node-adds _ _ _ _ _) (λ s sign.
+    next _ (node-adds _ _ _ _ _) (λ s exponent.
+    next _ (node-adds _ _ _ _ _) (λ s fraction.
+    next _ (node-adds _ _ _ _ _) (λ s zero.
+    next _ (node-adds _ _ _ _ _) (λ s zero-exponent.
+    next _ (node-adds _ _ _ _ _) (λ s zero-bit.
+    next _ (node-adds _ _ _ _ _) (λ s one-bit.
+    next _ (node-adds _ _ _ _ _) (λ s integer.
+    next _ (node-adds _ _ _ _ _) (λ s significand.
+    next _ (node-adds _ _ _ _ _) (λ s low.
+    node-adds _ _ _ _ _))))))))))
 
 pub to-slot-adds : (s : State) (raw width : ℕ) (format : MemFormat) → Adds s 3 0 (toSlotOf s raw width format)
 unfolding toSlotOf floatToSlotOf integerToSlotOf
@@ -42,7 +69,11 @@ from-slot-adds s value width format rounding =
 
 pub extended-arith-adds : (s : State) (op : X87Arith) (lhs rhs : ℕ) → Adds s 4 0 (extendedArithOf s op lhs rhs)
 unfolding extendedArithOf
-extended-arith-adds s op lhs rhs = next _ (node-adds _ _ _ _ _) (λ s _. next _ (node-adds _ _ _ _ _) (λ s _. next _ (node-adds _ _ _ _ _) (λ s _. node-adds _ _ _ _ _)))
+extended-arith-adds s op lhs rhs =
+    next _ (node-adds _ _ _ _ _) (λ s a.
+    next _ (node-adds _ _ _ _ _) (λ s b.
+    next _ (node-adds _ _ _ _ _) (λ s x.
+    node-adds _ _ _ _ _)))
 
 pub unary-adds : (s : State) (op : UnaryOp) (top : ℕ) → Adds s 3 0 (unaryOf s op top)
 unfolding unaryOf
@@ -75,4 +106,15 @@ predicate-adds s NotUnordered = flag-only s 1 0
 
 pub x87-status-word-adds : (s : State) (c0 c2 c3 : ℕ) → Adds s 11 0 (x87StatusWordOf s c0 c2 c3)
 unfolding x87StatusWordOf
-x87-status-word-adds s c0 c2 c3 = next _ (fresh-adds s 16) (λ s _. next _ (node-adds _ _ _ _ _) (λ s _. next _ (node-adds _ _ _ _ _) (λ s _. next _ (node-adds _ _ _ _ _) (λ s _. next _ (node-adds _ _ _ _ _) (λ s _. next _ (node-adds _ _ _ _ _) (λ s _. next _ (node-adds _ _ _ _ _) (λ s _. next _ (node-adds _ _ _ _ _) (λ s _. next _ (node-adds _ _ _ _ _) (λ s _. next _ (node-adds _ _ _ _ _) (λ s _. node-adds _ _ _ _ _))))))))))
+x87-status-word-adds s c0 c2 c3 =
+    next _ (fresh-adds s 16) (λ s free.
+    next _ (node-adds _ _ _ _ _) (λ s busy.
+    next _ (node-adds _ _ _ _ _) (λ s top.
+    next _ (node-adds _ _ _ _ _) (λ s c1.
+    next _ (node-adds _ _ _ _ _) (λ s exceptions.
+    next _ (node-adds _ _ _ _ _) (λ s from-c0.
+    next _ (node-adds _ _ _ _ _) (λ s from-c1.
+    next _ (node-adds _ _ _ _ _) (λ s from-c2.
+    next _ (node-adds _ _ _ _ _) (λ s from-top.
+    next _ (node-adds _ _ _ _ _) (λ s from-c3.
+    node-adds _ _ _ _ _))))))))))

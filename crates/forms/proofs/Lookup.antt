@@ -7,12 +7,12 @@ use native.Mathlib.Nat.{pow-suc}
 use native.Mathlib.Numerals.{add-one}
 use native.Mathlib.Omega.{arith}
 use lib.Dec.{eqb, ltb, leb}
-use lib.ListN.{length, drop, getD, drop-of-length-le, List·getD-map, length-map, length-drop}
+use lib.ListN.{length, drop, getD, drop-of-length-le, List·getD-map, List·getD-eq-default, length-map, length-drop}
 use lib.Seq.{drop-cons}
 use borrow.Author.Tests.{eq-eqb, ne-eqb, lt-ltb, lt-leb, le-leb, ltb-true, eqb-true, eqb-false, leb-true}
 use Rattle.texts.specs.Bytes.{all}
 use Rattle.texts.specs.Letters.{lowerOf, trimOf, sameLetters}
-use Rattle.forms.specs.Keys.{number, lowerIs, keyOf}
+use Rattle.forms.specs.Keys.{number, lowerIs, keyOf, nameKey, positionOf}
 use Rattle.forms.specs.Codes.{familyFrom}
 use Rattle.forms.specs.Names.{Name, names, noName, find, familyOf}
 use Rattle.forms.specs.declared.Family.{Family}
@@ -99,10 +99,14 @@ module _ (t r : List ℕ) (k : all letterIs r ≡ true) (h : length r ≤ 8) (l 
   unfolding keyOf
   key-finds = apart (leb (length t) 8 && all lowerIs t) (sameLetters t r) refl refl
 
-every-at : {A : Type 0} (f : A → Bool) (d : A) (l : List A) (i : ℕ) → all f l ≡ true → i < length l → f (getD l i d) ≡ true
-every-at f d [] i e h = absurd (omega arith)
-every-at f d (x ∷ l) zero e h = and-l (f x) (all f l) e
-every-at f d (x ∷ l) (suc i) e h = every-at f d l i (and-r (f x) (all f l) e) (omega arith)
+same-way : (a b : ℕ) (e : Bool) → eqb b a ≡ e → eqb a b ≡ e
+same-way a b true q = eq-eqb a b (sym (eqb-true b a q))
+same-way a b false q = ne-eqb a b (λ z. eqb-false b a q (sym z))
+
+chosen : (t : List ℕ) (n : Name) (ns : List Name) (e : Bool) → sameLetters t (n .text) ≡ e → find t ns ≡ getD ns (positionOf (keyOf t) (map nameKey ns)) noName .family
+    → find t (n ∷ ns) ≡ getD (n ∷ ns) (cond e 0 (suc (positionOf (keyOf t) (map nameKey ns)))) noName .family
+chosen t n ns true q r = rw q
+chosen t n ns false q r = rw q r
 
 pub names-length : length names ≡ 56
 unfolding names
@@ -113,37 +117,38 @@ names-rule : all nameIs names ≡ true
 unfolding names
 names-rule = refl
 
-module _ (t : List ℕ) (i : ℕ) (h : i < 56) where
-  row : List ℕ
-  row = getD names i noName .text
+at-row : (t : List ℕ) (n : Name) (ns : List Name) (e : Bool) → nameIs n ≡ true → eqb (nameKey n) (keyOf t) ≡ e → find t ns ≡ getD ns (positionOf (keyOf t) (map nameKey ns)) noName .family
+    → find t (n ∷ ns) ≡ getD (n ∷ ns) (cond e 0 (suc (positionOf (keyOf t) (map nameKey ns)))) noName .family
+at-row t n ns e h q r =
+    let f = and-r (all letterIs (n .text)) (leb (length (n .text)) 8 && ltb 0 (length (n .text))) h in
+    let k = key-finds t (n .text) (and-l (all letterIs (n .text)) (leb (length (n .text)) 8 && ltb 0 (length (n .text))) h)
+    (leb-true (length (n .text)) 8 (and-l (leb (length (n .text)) 8) (ltb 0 (length (n .text))) f))
+    (ltb-true 0 (length (n .text)) (and-r (leb (length (n .text)) 8) (ltb 0 (length (n .text))) f)) in
+    chosen t n ns e (sym k ∙ same-way (keyOf t) (nameKey n) e q) r
 
-  within : i < length names
-  within = omega (arith, names-length)
+-- looking a text up by its key finds what its letters find, in any table of such names
+pub find-position : (t : List ℕ) (ns : List Name) → all nameIs ns ≡ true → find t ns ≡ getD ns (positionOf (keyOf t) (map nameKey ns)) noName .family
+find-position t [] h = refl
+find-position t (n ∷ ns) h =
+    at-row t n ns (eqb (nameKey n) (keyOf t)) (and-l (nameIs n) (all nameIs ns) h) refl (find-position t ns (and-r (nameIs n) (all nameIs ns) h))
 
-  row-key : eqb (keyOf t) (number row) ≡ sameLetters t row
-  unfolding row
-  row-key =
-      let n = getD names i noName in
-      let e = every-at nameIs noName names i names-rule within in
-      let f = and-r (all letterIs (n .text)) (leb (length (n .text)) 8 && ltb 0 (length (n .text))) e in
-      key-finds t (n .text) (and-l (all letterIs (n .text)) (leb (length (n .text)) 8 && ltb 0 (length (n .text))) e)
-      (leb-true (length (n .text)) 8 (and-l (leb (length (n .text)) 8) (ltb 0 (length (n .text))) f))
-      (ltb-true 0 (length (n .text)) (and-r (leb (length (n .text)) 8) (ltb 0 (length (n .text))) f))
-
-  pub find-on : (number (getD names i noName .text) ≡ keyOf t → ⊥) → find t (drop i names) ≡ find t (drop (i + 1) names)
-  unfolding row
-  find-on e = rw (add-one, drop-cons names i noName within, sym row-key, ne-eqb (keyOf t) (number (getD names i noName .text)) (λ z. e (sym z)))
-
-  pub find-stop : number (getD names i noName .text) ≡ keyOf t → find t (drop i names) ≡ getD names i noName .family
-  unfolding row
-  find-stop e = rw (drop-cons names i noName within, sym row-key, eq-eqb (keyOf t) (number (getD names i noName .text)) (sym e))
-
-pub find-end : (t : List ℕ) (i : ℕ) → 56 ≤ i → find t (drop i names) ≡ Unknown
-find-end t i h = rw (drop-of-length-le names {i = i} (omega (arith, names-length)))
-
-pub found : (s : List ℕ) (r : Family) → find (trimOf s) names ≡ r → r ≡ familyOf s
+pub found : (s : List ℕ) (i : ℕ) → i ≡ positionOf (keyOf (trimOf s)) (map nameKey names) → getD names i noName .family ≡ familyOf s
 unfolding familyOf
-found s r q = sym q
+found s i e = rw e (sym (find-position (trimOf s) names names-rule))
+
+pub past : (i : ℕ) → 56 ≤ i → Unknown ≡ getD names i noName .family
+past i h = rw (List·getD-eq-default names noName {n = i} (omega (arith, names-length)))
+
+-- one turn of the search, and its ends
+module _ (l : List ℕ) (x i : ℕ) where
+  pub position-on : i < length l → (getD l i 0 ≡ x → ⊥) → i + positionOf x (drop i l) ≡ i + 1 + positionOf x (drop (i + 1) l)
+  position-on h e = rw (add-one, drop-cons l i 0, ne-eqb _ _ e) (omega arith)
+
+  pub position-stop : i < length l → getD l i 0 ≡ x → i + positionOf x (drop i l) ≡ i
+  position-stop h e = rw (drop-cons l i 0, eq-eqb _ _ e) (omega arith)
+
+  pub position-end : length l ≤ i → i + positionOf x (drop i l) ≡ i
+  position-end h = rw (drop-of-length-le l h) (omega arith)
 
 default : {A : Type 0} (l : List A) (i : ℕ) (d e : A) → i < length l → getD l i d ≡ getD l i e
 default [] i d e h = absurd (omega arith)

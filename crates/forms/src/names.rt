@@ -11,11 +11,12 @@ use super::X87Arith;
 use super::X87Condition;
 use texts::Text;
 ghost use mathlib.Core.Path.{_≡_};
+ghost use mathlib.Core.List.{map};
 ghost use Prim.Native.Nat.{_<_};
 ghost use lib.ListN.{take, getD};
 ghost use Rattle.texts.specs.Bytes.{bytesOf};
 ghost use Rattle.forms.specs.Names.{names, noName, familyOf};
-ghost use Rattle.forms.specs.Keys.{number, keyOf};
+ghost use Rattle.forms.specs.Keys.{keyOf, nameKey, positionOf};
 ghost use Rattle.forms.specs.Codes.{plainFrom, loadFrom, pinnedOf, storeFrom, compareFrom, conditionFrom, arithFrom, reversedFrom, familyFrom};
 
 // The names, each with its first letter in the low byte.
@@ -138,12 +139,25 @@ const CODES: [u8; 56] = [
     0xc5, // fdivrp
 ];
 
-// The name's key at `i`.
-fn name_at(i: usize) -> u64
-    requires { ⌜ i < 56 ⌝ }
-    ensures { λ r. ⌜ r ≡ number (getD names i noName .text) ⌝ }
+// Where a number first stands in a list of them, or the list's length.
+fn position(list: &[u64], x: u64) -> usize
+    ensures { λ r. ⌜ r ≡ positionOf x (now (list .entry)) ⌝ }
 {
-    NAMES[i]
+    let mut i = 0;
+    while i < list.len() {
+        if list[i] == x {
+            return i;
+        }
+        i += 1;
+    }
+    i
+}
+
+// The row of the name with this key, or 56.
+fn row(key: u64) -> usize
+    ensures { λ r. ⌜ r ≡ positionOf key (map nameKey names) ⌝ }
+{
+    position(&NAMES, key)
 }
 
 fn code_at(i: usize) -> u8
@@ -332,13 +346,9 @@ fn family(s: &[u8]) -> Family
     ensures { λ r. ⌜ r ≡ familyOf (now (s .entry)) ⌝ }
 {
     let t = texts::trim(s);
-    let k = key(t);
-    let mut i = 0;
-    while i < 56 {
-        if name_at(i) == k {
-            return family_from(code_at(i));
-        }
-        i += 1;
+    let i = row(key(t));
+    if i < 56 {
+        return family_from(code_at(i));
     }
     Family::Unknown
 }

@@ -5,6 +5,7 @@ ghost use Prim.Native.Nat.{_+_};
 ghost use lib.Dec.{leb};
 ghost use Rattle.lists.specs.Rows.{roomOf};
 ghost use Rattle.lists.specs.Steps.{Did, Told, Does};
+ghost use Rattle.lists.specs.Stack.{exchangeOf};
 ghost use Rattle.lifter.specs.Site.{siteOf};
 ghost use Rattle.lifter.specs.Memory.{variableOf, readOperandLoweredOf, imageReadOf, convertedOf, x87MemoryReadOf, sourceOf, writeDstOf, topOf, x87StoreMemoryOf, x87StoreStatusOf};
 ghost use Rattle.lifter.specs.Forms.{droppedTimes, droppedIf, orderedOf, x87ArithOf, x87CompareStatusOf, setFlagOf, x87CompareFlagsOf, x87ConditionalMoveOf, x87UnaryOf, storeSlotOf};
@@ -110,13 +111,13 @@ fn x87_memory_read(
     statements: &mut [u64],
     s: State,
     site: Site,
-    width: u32,
+    width: u16,
     format: MemFormat,
 ) -> Step
     ensures { λ r. ⌜ Does (x87MemoryReadOf s site width format) (r .state) (r .at) (now (nodes .entry)) (now (nodes .exit)) (now (statements .entry)) (now (statements .exit)) ⌝ }
 {
-    let raw = read_operand_lowered(nodes, statements, s, site, width);
-    converted(nodes, raw.state, raw.at, width, format)
+    let raw = read_operand_lowered(nodes, statements, s, site, width as u32);
+    converted(nodes, raw.state, raw.at, width as u32, format)
 }
 
 // The second input of an arithmetic instruction or of a compare.
@@ -130,7 +131,7 @@ fn source(nodes: &mut [u64], statements: &mut [u64], s: State, site: Site, src: 
             statements,
             s,
             site,
-            width as u32,
+            width,
             format,
         ),
     }
@@ -168,23 +169,31 @@ fn x87_store_memory(
     statements: &mut [u64],
     s: State,
     site: Site,
-    width: u32,
+    width: u16,
     format: MemFormat,
     pop: bool,
     rounding: RoundingMode,
-) -> State
-    ensures { λ r. ⌜ Does (x87StoreMemoryOf s site width format pop rounding) r 0 (now (nodes .entry)) (now (nodes .exit)) (now (statements .entry)) (now (statements .exit)) ⌝ }
+) -> Done
+    ensures { λ r. ⌜ Does (x87StoreMemoryOf s site width format pop rounding) (r .state) (r .answer) (now (nodes .entry)) (now (nodes .exit)) (now (statements .entry)) (now (statements .exit)) ⌝ }
 {
     let value = top(nodes, s, pop);
-    let stored = exprs::from_slot(nodes, value.state, value.at, width, format, rounding);
-    write_dst(statements, stored.state, site, stored.at, width)
+    let stored = exprs::from_slot(nodes, value.state, value.at, width as u32, format, rounding);
+    let t = write_dst(statements, stored.state, site, stored.at, width as u32);
+    Done {
+        state: t,
+        answer: 0,
+    }
 }
 
-fn x87_store_status(nodes: &mut [u64], statements: &mut [u64], s: State, site: Site) -> State
-    ensures { λ r. ⌜ Does (x87StoreStatusOf s site) r 0 (now (nodes .entry)) (now (nodes .exit)) (now (statements .entry)) (now (statements .exit)) ⌝ }
+fn x87_store_status(nodes: &mut [u64], statements: &mut [u64], s: State, site: Site) -> Done
+    ensures { λ r. ⌜ Does (x87StoreStatusOf s site) (r .state) (r .answer) (now (nodes .entry)) (now (nodes .exit)) (now (statements .entry)) (now (statements .exit)) ⌝ }
 {
     let status = exprs::fsw(nodes, s);
-    write_dst(statements, status.state, site, status.at, 16)
+    let t = write_dst(statements, status.state, site, status.at, 16);
+    Done {
+        state: t,
+        answer: 0,
+    }
 }
 
 fn drop_times(s: State, pops: u8) -> State
@@ -228,14 +237,17 @@ fn x87_arith(
     src: ArithSrc,
     reversed: bool,
     pop: bool,
-) -> State
-    ensures { λ r. ⌜ Does (x87ArithOf s site op dst src reversed pop) r 0 (now (nodes .entry)) (now (nodes .exit)) (now (statements .entry)) (now (statements .exit)) ⌝ }
+) -> Done
+    ensures { λ r. ⌜ Does (x87ArithOf s site op dst src reversed pop) (r .state) (r .answer) (now (nodes .entry)) (now (nodes .exit)) (now (statements .entry)) (now (statements .exit)) ⌝ }
 {
     let a = lists::read(nodes, s, dst);
     let b = source(nodes, statements, a.state, site, src);
     let v = ordered(nodes, b.state, op, a.at, b.at, reversed);
     let t = lists::write(nodes, v.state, dst, v.at);
-    drop_if(t, pop)
+    Done {
+        state: drop_if(t, pop),
+        answer: 0,
+    }
 }
 
 // The outcome goes into the status word's condition codes.
@@ -246,8 +258,8 @@ fn x87_compare_status(
     site: Site,
     src: ArithSrc,
     pops: u8,
-) -> State
-    ensures { λ r. ⌜ Does (x87CompareStatusOf s site src pops) r 0 (now (nodes .entry)) (now (nodes .exit)) (now (statements .entry)) (now (statements .exit)) ⌝ }
+) -> Done
+    ensures { λ r. ⌜ Does (x87CompareStatusOf s site src pops) (r .state) (r .answer) (now (nodes .entry)) (now (nodes .exit)) (now (statements .entry)) (now (statements .exit)) ⌝ }
 {
     let top = lists::read(nodes, s, 0);
     let a = exprs::as_extended(nodes, top.state, top.at);
@@ -260,7 +272,10 @@ fn x87_compare_status(
     let c3 = exprs::bool_or(nodes, c0.state, unordered.at, equal.at);
     let status = exprs::x87_status_word(nodes, c3.state, c0.at, unordered.at, c3.at);
     let t = lists::statement(statements, status.state, 3, status.at as u64, 0, 0);
-    drop_times(t, pops)
+    Done {
+        state: drop_times(t, pops),
+        answer: 0,
+    }
 }
 
 // A flag: 0 CF, 1 PF, 2 ZF, 3 OF, 4 SF.
@@ -277,8 +292,8 @@ fn x87_compare_flags(
     s: State,
     src: u32,
     pop: bool,
-) -> State
-    ensures { λ r. ⌜ Does (x87CompareFlagsOf s src pop) r 0 (now (nodes .entry)) (now (nodes .exit)) (now (statements .entry)) (now (statements .exit)) ⌝ }
+) -> Done
+    ensures { λ r. ⌜ Does (x87CompareFlagsOf s src pop) (r .state) (r .answer) (now (nodes .entry)) (now (nodes .exit)) (now (statements .entry)) (now (statements .exit)) ⌝ }
 {
     let top = lists::read(nodes, s, 0);
     let a = exprs::as_extended(nodes, top.state, top.at);
@@ -296,44 +311,69 @@ fn x87_compare_flags(
     let s4 = set_flag(statements, of.state, 3, of.at);
     let sf = exprs::konst(nodes, s4, 0, 1);
     let s5 = set_flag(statements, sf.state, 4, sf.at);
-    drop_if(s5, pop)
+    Done {
+        state: drop_if(s5, pop),
+        answer: 0,
+    }
 }
 
 // A select between two places.
-fn x87_conditional_move(nodes: &mut [u64], s: State, src: u32, condition: X87Condition) -> State
-    ensures { λ r. ⌜ Did (x87ConditionalMoveOf s src condition) r 0 (now (nodes .entry)) (now (nodes .exit)) ⌝ }
+fn x87_conditional_move(nodes: &mut [u64], s: State, src: u32, condition: X87Condition) -> Done
+    ensures { λ r. ⌜ Did (x87ConditionalMoveOf s src condition) (r .state) (r .answer) (now (nodes .entry)) (now (nodes .exit)) ⌝ }
 {
     let taken = lists::read(nodes, s, src);
     let kept = lists::read(nodes, taken.state, 0);
     let holds = exprs::predicate(nodes, kept.state, condition);
     let v = exprs::ite(nodes, holds.state, holds.at, taken.at, kept.at);
-    lists::write(nodes, v.state, 0, v.at)
+    let t = lists::write(nodes, v.state, 0, v.at);
+    Done {
+        state: t,
+        answer: 0,
+    }
 }
 
-fn x87_unary(nodes: &mut [u64], s: State, op: UnaryOp) -> State
-    ensures { λ r. ⌜ Did (x87UnaryOf s op) r 0 (now (nodes .entry)) (now (nodes .exit)) ⌝ }
+fn x87_unary(nodes: &mut [u64], s: State, op: UnaryOp) -> Done
+    ensures { λ r. ⌜ Did (x87UnaryOf s op) (r .state) (r .answer) (now (nodes .entry)) (now (nodes .exit)) ⌝ }
 {
     let top = lists::read(nodes, s, 0);
     let v = exprs::unary(nodes, top.state, op, top.at);
-    lists::write(nodes, v.state, 0, v.at)
+    let t = lists::write(nodes, v.state, 0, v.at);
+    Done {
+        state: t,
+        answer: 0,
+    }
 }
 
 // The top into another place.
-fn store_slot(nodes: &mut [u64], s: State, index: u32, pop: bool) -> State
-    ensures { λ r. ⌜ Did (storeSlotOf s index pop) r 0 (now (nodes .entry)) (now (nodes .exit)) ⌝ }
+fn store_slot(nodes: &mut [u64], s: State, index: u32, pop: bool) -> Done
+    ensures { λ r. ⌜ Did (storeSlotOf s index pop) (r .state) (r .answer) (now (nodes .entry)) (now (nodes .exit)) ⌝ }
 {
     let value = lists::read(nodes, s, 0);
     let t = lists::write(nodes, value.state, index, value.at);
-    drop_if(t, pop)
+    Done {
+        state: drop_if(t, pop),
+        answer: 0,
+    }
+}
+
+fn exchange(nodes: &mut [u64], s: State, index: u32) -> Done
+    ensures { λ r. ⌜ Did (exchangeOf s index) (r .state) (r .answer) (now (nodes .entry)) (now (nodes .exit)) ⌝ }
+{
+    let t = lists::exchange(nodes, s, index);
+    Done {
+        state: t,
+        answer: 0,
+    }
 }
 
 // A decline forgets the stack and says why, 1 or 2, and where.
 fn decline_x87(statements: &mut [u64], s: State, why: u32, address: u64) -> Done
     ensures { λ r. ⌜ Told (declineX87Of s why address) (r .state) (r .answer) (now (statements .entry)) (now (statements .exit)) ⌝ }
 {
-    let t = lists::statement(statements, lists::havoc(s), 6, why as u64, address, 0);
+    let t = lists::havoc(s);
+    let u = lists::statement(statements, t, 6, why as u64, address, 0);
     Done {
-        state: t,
+        state: u,
         answer: why,
     }
 }
@@ -379,13 +419,13 @@ fn push_memory(
     statements: &mut [u64],
     s: State,
     site: Site,
-    width: u32,
+    width: u16,
     format: MemFormat,
 ) -> Done
     ensures { λ r. ⌜ Does (pushMemoryOf s site width format) (r .state) (r .answer) (now (nodes .entry)) (now (nodes .exit)) (now (statements .entry)) (now (statements .exit)) ⌝ }
 {
-    let value = x87_memory_read(nodes, statements, s, site, width, format);
-    land(statements, value.state, value.at, site.address)
+    let loaded = x87_memory_read(nodes, statements, s, site, width, format);
+    land(statements, loaded.state, loaded.at, site.address)
 }
 
 fn apply_x87(nodes: &mut [u64], statements: &mut [u64], s: State, form: Form, site: Site) -> Done
@@ -398,7 +438,7 @@ fn apply_x87(nodes: &mut [u64], statements: &mut [u64], s: State, form: Form, si
             statements,
             s,
             site,
-            width as u32,
+            width,
             format,
         ),
         Form::PushSlot(index) => push_slot(nodes, statements, s, site, index),
@@ -407,57 +447,28 @@ fn apply_x87(nodes: &mut [u64], statements: &mut [u64], s: State, form: Form, si
             format,
             pop,
             rounding,
-        } => Done {
-            state: x87_store_memory(
-                nodes,
-                statements,
-                s,
-                site,
-                width as u32,
-                format,
-                pop,
-                rounding,
-            ),
-            answer: 0,
-        },
-        Form::StoreSlot { index, pop } => Done {
-            state: store_slot(nodes, s, index, pop),
-            answer: 0,
-        },
+        } => x87_store_memory(nodes, statements, s, site, width, format, pop, rounding),
+        Form::StoreSlot { index, pop } => store_slot(nodes, s, index, pop),
         Form::Arith {
             op,
             dst,
             src,
             reversed,
             pop,
-        } => Done {
-            state: x87_arith(nodes, statements, s, site, op, dst, src, reversed, pop),
-            answer: 0,
-        },
-        Form::CompareStatus { src, pops } => Done {
-            state: x87_compare_status(nodes, statements, s, site, src, pops),
-            answer: 0,
-        },
-        Form::CompareFlags { src, pop } => Done {
-            state: x87_compare_flags(nodes, statements, s, src, pop),
-            answer: 0,
-        },
-        Form::ConditionalMove { src, condition } => Done {
-            state: x87_conditional_move(nodes, s, src, condition),
-            answer: 0,
-        },
-        Form::StoreStatus => Done {
-            state: x87_store_status(nodes, statements, s, site),
-            answer: 0,
-        },
-        Form::Exchange(index) => Done {
-            state: lists::exchange(nodes, s, index),
-            answer: 0,
-        },
-        Form::Unary(op) => Done {
-            state: x87_unary(nodes, s, op),
-            answer: 0,
-        },
+        } => x87_arith(nodes, statements, s, site, op, dst, src, reversed, pop),
+        Form::CompareStatus { src, pops } => x87_compare_status(
+            nodes,
+            statements,
+            s,
+            site,
+            src,
+            pops,
+        ),
+        Form::CompareFlags { src, pop } => x87_compare_flags(nodes, statements, s, src, pop),
+        Form::ConditionalMove { src, condition } => x87_conditional_move(nodes, s, src, condition),
+        Form::StoreStatus => x87_store_status(nodes, statements, s, site),
+        Form::Exchange(index) => exchange(nodes, s, index),
+        Form::Unary(op) => x87_unary(nodes, s, op),
     }
 }
 
@@ -543,7 +554,8 @@ pub fn lift(nodes: &mut [u64], statements: &mut [u64], s: State, insn: Instructi
     ensures { λ r. ⌜ Does (liftOf s insn (now (nodes .entry)) (now (statements .entry))) (r .state) (r .answer) (now (nodes .entry)) (now (nodes .exit)) (now (statements .entry)) (now (statements .exit)) ⌝ }
 {
     if lists::valid(s, lists::room(nodes.len()), lists::room(statements.len())) {
-        return fit(nodes, statements, s, forms::classify(insn), site_of(insn));
+        let classified = forms::classify(insn);
+        return fit(nodes, statements, s, classified, site_of(insn));
     }
     Done {
         state: s,

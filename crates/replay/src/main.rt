@@ -1,8 +1,15 @@
 // Replays the stored answers of the Rust: each row of data/ against the proved calls.
 ghost use mathlib.Core.Path.{_≡_};
-ghost use Prim.Native.Nat.{_+_, _*_, _≤_, _<_};
+ghost use Prim.Native.Nat.{_+_, _≤_, _<_};
 ghost use lib.ListN.{length};
 use libc::STDOUT_FILENO;
+
+// Whose rows are read, one of the files in data/.
+enum File {
+    Instructions,
+    Records,
+    Lifts,
+}
 
 // What a turn found: a row whose answers are the calls' own, another one, or no further row.
 enum Turn {
@@ -11,7 +18,10 @@ enum Turn {
     End,
 }
 
-fn wide(b: u8) -> u64 {
+// A byte as a word.
+fn wide(b: u8) -> u64
+    ensures { λ r. ⌜ r < 256 ⌝ }
+{
     b as u64
 }
 
@@ -20,34 +30,60 @@ fn two(s: &[u8], at: usize) -> usize
     requires { ⌜ at + 2 ≤ length (now s) ⌝ }
     ensures { λ r. ⌜ r < 65536 ⌝ }
 {
-    let low = s[at] as usize;
-    let high = s[at + 1] as usize;
-    low + 256 * high
+    let low = wide(s[at]);
+    let high = wide(s[at + 1]);
+    (low + 256 * high) as usize
 }
 
-// Whether the bytes from a place on are the words' own, eight for each, low byte first.
-fn word_equal(w: u64, s: &[u8], at: usize) -> bool
-    requires { ⌜ at + 8 ≤ length (now s) ⌝ }
+// The number that four bytes at a place make, low byte first.
+fn four(s: &[u8], at: usize) -> u64
+    requires { ⌜ at + 4 ≤ length (now s) ⌝ }
+    ensures { λ r. ⌜ r < 4294967296 ⌝ }
 {
+    let low = two(s, at);
+    let high = two(s, at + 2);
+    (low + 65536 * high) as u64
+}
+
+// Whether bytes are a word's own, low byte first.
+fn word_equal(w: u64, s: &[u8]) -> bool {
     let mut v = w;
     let mut i = 0;
-    while i < 8 {
-        if wide(s[at + i]) == v % 256 {
+    while i < s.len() {
+        if wide(s[i]) == v % 256 {
             v = v / 256;
             i += 1;
         } else {
             return false;
         }
     }
-    true
+    v == 0
 }
 
-fn words_equal(w: &[u64], s: &[u8], at: usize) -> bool
-    requires { ⌜ at + 8 * length (now w) ≤ length (now s) ⌝ }
-{
+// Whether bytes are the words' own, so many for each.
+fn words_equal(w: &[u64], s: &[u8], size: usize) -> bool {
+    let mut at = 0;
     let mut i = 0;
     while i < w.len() {
-        if word_equal(w[i], s, at + 8 * i) {
+        if s.len() - at < size {
+            return false;
+        }
+        let end = at + size;
+        if word_equal(w[i], &s[at..end]) {
+            at = end;
+            i += 1;
+        } else {
+            return false;
+        }
+    }
+    at == s.len()
+}
+
+// Whether every word is zero.
+fn zeros(w: &[u64]) -> bool {
+    let mut i = 0;
+    while i < w.len() {
+        if w[i] == 0 {
             i += 1;
         } else {
             return false;
@@ -56,33 +92,39 @@ fn words_equal(w: &[u64], s: &[u8], at: usize) -> bool
     true
 }
 
-// Whether the bytes from a place on are the flags' own.
-fn flags_equal(f: &[u64], s: &[u8], at: usize) -> bool
-    requires { ⌜ at + length (now f) ≤ length (now s) ⌝ }
-{
-    let mut i = 0;
-    while i < f.len() {
-        if f[i] == wide(s[at + i]) {
-            i += 1;
-        } else {
-            return false;
+// Whether a list that was all zeros has the added rows from a place on, and no other change.
+fn list_equal(list: &[u64], from: usize, rows: &[u8]) -> bool {
+    if rows.len() == 0 {
+        return zeros(list);
+    }
+    let size = rows.len() / 8;
+    if list.len() < size {
+        return false;
+    }
+    if list.len() - size < from {
+        return false;
+    }
+    let end = from + size;
+    if zeros(&list[0..from]) {
+        if zeros(&list[end..]) {
+            return words_equal(&list[from..end], rows, 8);
         }
     }
-    true
+    false
 }
 
 // A row: 177 bytes of an instruction, the answer, eight form words, seven flags of its effect.
-fn instruction_equal(row: &[u8]) -> bool
-    requires { ⌜ length (now row) ≡ 249 ⌝ }
+fn instruction_equal(head: &[u8]) -> bool
+    requires { ⌜ length (now head) ≡ 288 ⌝ }
 {
     let mut words = [0u64; 8];
     let mut flags = [0u64; 7];
-    let a = export::x87_classify(&row[..177], &mut words);
-    let b = export::x87_effect(&row[..177], &mut flags);
-    if a as u64 == wide(row[177]) {
+    let a = export::x87_classify(&head[0..177], &mut words);
+    let b = export::x87_effect(&head[0..177], &mut flags);
+    if a as u64 == wide(head[177]) {
         if a == b {
-            if words_equal(&words, row, 178) {
-                return flags_equal(&flags, row, 242);
+            if words_equal(&words, &head[178..242], 8) {
+                return words_equal(&flags, &head[242..249], 1);
             }
         }
     }
@@ -91,7 +133,7 @@ fn instruction_equal(row: &[u8]) -> bool
 
 // A row's head: input length and start place (two bytes each), answer, place (two bytes), record or not, 177 bytes of its instruction; then the input.
 fn record_equal(head: &[u8], input: &[u8]) -> bool
-    requires { ⌜ length (now head) ≡ 185 ⌝ }
+    requires { ⌜ length (now head) ≡ 288 ⌝ }
 {
     let mut flat = [0u8; 177];
     let mut out = [0u64; 2];
@@ -101,61 +143,130 @@ fn record_equal(head: &[u8], input: &[u8]) -> bool
     if answer as u64 == wide(head[4]) {
         if out[0] == place as u64 {
             if out[1] == wide(head[7]) {
-                return check::same(&flat, &head[8..]);
+                return check::same(&flat, &head[8..185]);
             }
         }
     }
     false
 }
 
-fn instruction_turn(fd: i32) -> Turn {
-    let mut row = [0u8; 249];
-    let n = io::read_full(fd, &mut row);
-    if n == 0 {
-        return Turn::End;
+// The state before a lift.
+fn state_before(head: &[u8]) -> [u64; 13]
+    requires { ⌜ length (now head) ≡ 288 ⌝ }
+{
+    let mut w = [0u64; 13];
+    let mut i = 0;
+    while i < 13 {
+        w[i] = four(head, 4 * i);
+        i += 1;
     }
-    if n < 249 {
-        return Turn::Different;
-    }
-    if instruction_equal(&row) {
-        return Turn::Equal;
-    }
-    Turn::Different
+    w
 }
 
-// Reads a row's input, which fills a part, and compares.
-fn record_rest(fd: i32, head: &[u8], part: &mut [u8]) -> Turn
-    requires { ⌜ length (now head) ≡ 185 ⌝ }
+// Whether both lists have the rows of a tail, each from the count of the state before on.
+fn lists_equal(head: &[u8], tail: &[u8], nodes: &[u64; 4096], statements: &[u64; 4096]) -> bool
+    requires { ⌜ length (now head) ≡ 288 ⌝ }
 {
+    let split = 32 * wide(head[286]) as usize;
+    let first = 4 * four(head, 36) as usize;
+    let second = 4 * four(head, 40) as usize;
+    if tail.len() < split {
+        return false;
+    }
+    if list_equal(nodes, first, &tail[0..split]) {
+        return list_equal(statements, second, &tail[split..]);
+    }
+    false
+}
+
+// A row's head: state before (13 numbers of four bytes), rooms of both lists (two bytes each), 177 bytes of the instruction, answer, state after, how many rows each list gains; then those rows.
+fn lift_equal(head: &[u8], tail: &[u8]) -> bool
+    requires { ⌜ length (now head) ≡ 288 ⌝ }
+{
+    let first = 4 * two(head, 52);
+    let second = 4 * two(head, 54);
+    if 4096 < first {
+        return false;
+    }
+    if 4096 < second {
+        return false;
+    }
+    let mut state = state_before(head);
+    let mut nodes = [0u64; 4096];
+    let mut statements = [0u64; 4096];
+    let answer = export::x87_lift(
+        &head[56..233],
+        &mut state,
+        &mut nodes[0..first],
+        &mut statements[0..second],
+    );
+    if answer as u64 == wide(head[233]) {
+        if words_equal(&state, &head[234..286], 4) {
+            return lists_equal(head, tail, &nodes, &statements);
+        }
+    }
+    false
+}
+
+// Whether a row's answers are the calls' own.
+fn row_equal(file: File, head: &[u8], tail: &[u8]) -> bool
+    requires { ⌜ length (now head) ≡ 288 ⌝ }
+{
+    match file {
+        File::Instructions => instruction_equal(head),
+        File::Records => record_equal(head, tail),
+        File::Lifts => lift_equal(head, tail),
+    }
+}
+
+// How many bytes a row's head has, of the 288 that are lent for any.
+fn head_size(file: File) -> usize
+    ensures { λ r. ⌜ r ≤ 288 ⌝ }
+{
+    match file {
+        File::Instructions => 249,
+        File::Records => 185,
+        File::Lifts => 288,
+    }
+}
+
+// How many bytes follow a row's head.
+fn tail_size(file: File, head: &[u8; 288]) -> usize
+    ensures { λ r. ⌜ r < 65536 ⌝ }
+{
+    match file {
+        File::Instructions => 0,
+        File::Records => two(head, 0),
+        File::Lifts => 32 * (wide(head[286]) + wide(head[287])) as usize,
+    }
+}
+
+// Reads a row's tail, which fills a part, and compares.
+fn rest(fd: i32, file: File, head: &[u8; 288], part: &mut [u8]) -> Turn {
     let got = io::read_full(fd, part);
     if got < part.len() {
         return Turn::Different;
     }
-    if record_equal(head, part) {
+    if row_equal(file, head, part) {
         return Turn::Equal;
     }
     Turn::Different
 }
 
-fn record_turn(fd: i32) -> Turn {
-    let mut head = [0u8; 185];
-    let mut input = io::large_buffer();
-    let n = io::read_full(fd, &mut head);
+// Reads a row and compares.
+fn next_turn(fd: i32, file: File) -> Turn {
+    let mut head = [0u8; 288];
+    let mut tail = io::large_buffer();
+    let size = head_size(file);
+    let n = io::read_full(fd, &mut head[0..size]);
     if n == 0 {
         return Turn::End;
     }
-    if n < 185 {
+    if n < size {
         return Turn::Different;
     }
-    let size = two(&head, 0);
-    record_rest(fd, &head, &mut input[..size])
-}
-
-fn next_turn(fd: i32, records: bool) -> Turn {
-    if records {
-        return record_turn(fd);
-    }
-    instruction_turn(fd)
+    let more = tail_size(file, &head);
+    rest(fd, file, &head, &mut tail[0..more])
 }
 
 // How many rows were equal, up to the end or to the first that differs.
@@ -169,10 +280,10 @@ fn say(rows: u64, equal: bool) {
 }
 
 // Every row of a file: a proved loop has to end, so it stops after a million.
-fn rows(fd: i32, records: bool) {
+fn rows(fd: i32, file: File) {
     let mut n: u64 = 0;
     while n < 1000000 {
-        match next_turn(fd, records) {
+        match next_turn(fd, file) {
             Turn::Equal => n += 1,
             Turn::Different => {
                 say(n, false);
@@ -190,8 +301,11 @@ fn rows(fd: i32, records: bool) {
 fn main() {
     let one = os::open_read(b"instructions.bin");
     io::write_all(STDOUT_FILENO, b"instructions ");
-    rows(one, false);
+    rows(one, File::Instructions);
     let two = os::open_read(b"records.bin");
     io::write_all(STDOUT_FILENO, b"records ");
-    rows(two, true);
+    rows(two, File::Records);
+    let three = os::open_read(b"lifts.bin");
+    io::write_all(STDOUT_FILENO, b"lifts ");
+    rows(three, File::Lifts);
 }

@@ -27,7 +27,10 @@ returns c =
     let c3 = c4 .before in
     let c2 = c3 .before .before .before .before in
     let c1 = c2 .before .before .before .before in
-    then _ (c1 .as-extended .ensures) (then _ (c2 .as-extended2 .ensures) (then _ (rw (c3 .arith-kind .ensures) at (c4 .fp-arith .ensures)) (c5 .from-extended .ensures)))
+    then _ (c1 .as-extended .ensures)
+    (then _ (c2 .as-extended2 .ensures)
+    (then _ (rw (c3 .arith-kind .ensures) at (c4 .fp-arith .ensures))
+    (c5 .from-extended .ensures)))
 
 same-length : tie.Need-same-length
 same-length c = long (returns c)

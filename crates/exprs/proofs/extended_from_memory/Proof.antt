@@ -71,7 +71,22 @@ returns c =
     let c3 = c4 .before .before .before .before in
     let c2 = c3 .before .before .before .before in
     let c1 = c2 .before .before .before .before in
-    then _ (c1 .extract .ensures) (then _ (c2 .extract2 .ensures) (then _ (c3 .extract3 .ensures) (then _ (c4 .extract4 .ensures) (then _ (c5 .konst .ensures) (then _ (c6 .eq .ensures) (then _ (c7 .konst2 .ensures) (then _ (c8 .eq2 .ensures) (then _ (c9 .bool-not .ensures) (then _ (c10 .bool-and .ensures) (then _ (c11 .bool-not2 .ensures) (then _ (c12 .bool-and2 .ensures) (then _ (c13 .bool-or .ensures) (then _ (c14 .concat .ensures) (then _ (c15 .concat2 .ensures) (c16 .ite .ensures)))))))))))))))
+    then _ (c1 .extract .ensures)
+    (then _ (c2 .extract2 .ensures)
+    (then _ (c3 .extract3 .ensures)
+    (then _ (c4 .extract4 .ensures)
+    (then _ (c5 .konst .ensures)
+    (then _ (c6 .eq .ensures)
+    (then _ (c7 .konst2 .ensures)
+    (then _ (c8 .eq2 .ensures)
+    (then _ (c9 .bool-not .ensures)
+    (then _ (c10 .bool-and .ensures)
+    (then _ (c11 .bool-not2 .ensures)
+    (then _ (c12 .bool-and2 .ensures)
+    (then _ (c13 .bool-or .ensures)
+    (then _ (c14 .concat .ensures)
+    (then _ (c15 .concat2 .ensures)
+    (c16 .ite .ensures)))))))))))))))
 
 same-length : tie.Need-same-length
 same-length c = long (returns c)

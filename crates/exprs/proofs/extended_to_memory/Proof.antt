@@ -51,7 +51,17 @@ returns c =
     let c3 = c4 .before .before .before .before in
     let c2 = c3 .before .before .before .before in
     let c1 = c2 .before .before .before .before in
-    then _ (c1 .extract .ensures) (then _ (c2 .extract2 .ensures) (then _ (c3 .extract3 .ensures) (then _ (c4 .konst .ensures) (then _ (c5 .eq .ensures) (then _ (c6 .konst2 .ensures) (then _ (c7 .konst3 .ensures) (then _ (c8 .ite .ensures) (then _ (c9 .concat .ensures) (then _ (c10 .concat2 .ensures) (c11 .concat3 .ensures))))))))))
+    then _ (c1 .extract .ensures)
+    (then _ (c2 .extract2 .ensures)
+    (then _ (c3 .extract3 .ensures)
+    (then _ (c4 .konst .ensures)
+    (then _ (c5 .eq .ensures)
+    (then _ (c6 .konst2 .ensures)
+    (then _ (c7 .konst3 .ensures)
+    (then _ (c8 .ite .ensures)
+    (then _ (c9 .concat .ensures)
+    (then _ (c10 .concat2 .ensures)
+    (c11 .concat3 .ensures))))))))))
 
 same-length : tie.Need-same-length
 same-length c = long (returns c)

@@ -22,7 +22,9 @@ returns c =
     let c3 = c .before .before in
     let c2 = c3 .before .before .before .before in
     let c1 = c2 .before .before .before .before in
-    then _ (c1 .flag .ensures) (then _ (c2 .konst .ensures) (c3 .eq .ensures))
+    then _ (c1 .flag .ensures)
+    (then _ (c2 .konst .ensures)
+    (c3 .eq .ensures))
 
 pub flag-is-spec : {M : Type 1} → statement M
 flag-is-spec = tie.close (tie.spec flag-requires konst-requires eq-requires same-length returns)

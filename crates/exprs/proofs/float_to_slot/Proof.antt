@@ -23,7 +23,9 @@ returns c =
     let c3 = c4 .before .before .before .before in
     let c2 = c3 .before .before .before .before in
     let c1 = c2 .before in
-    then _ (rw (c1 .format-number .ensures) at (c2 .bv-to-fp .ensures)) (then _ (c3 .fp-to-fp .ensures) (c4 .from-extended .ensures))
+    then _ (rw (c1 .format-number .ensures) at (c2 .bv-to-fp .ensures))
+    (then _ (c3 .fp-to-fp .ensures)
+    (c4 .from-extended .ensures))
 
 same-length : tie.Need-same-length
 same-length c = long (returns c)

@@ -27,7 +27,9 @@ returns c =
     let c3 = c4 .before in
     let c2 = c3 .before in
     let c1 = c2 .before .before .before .before in
-    then _ (c1 .as-extended .ensures) (then _ (rw (c2 .rounding-number .ensures, c3 .format-number .ensures) at (c4 .fp-to-fp .ensures)) (c5 .from-extended .ensures))
+    then _ (c1 .as-extended .ensures)
+    (then _ (rw (c2 .rounding-number .ensures, c3 .format-number .ensures) at (c4 .fp-to-fp .ensures))
+    (c5 .from-extended .ensures))
 
 same-length : tie.Need-same-length
 same-length c = long (returns c)

@@ -22,7 +22,9 @@ returns c =
     let c3 = c .before .before in
     let c2 = c3 .before .before .before .before in
     let c1 = c2 .before .before .before .before in
-    then _ (c1 .flag-is .ensures) (then _ (c2 .flag-is2 .ensures) (c3 .bool-and .ensures))
+    then _ (c1 .flag-is .ensures)
+    (then _ (c2 .flag-is2 .ensures)
+    (c3 .bool-and .ensures))
 
 pub not-below-or-equal-spec : {M : Type 1} → statement M
 not-below-or-equal-spec =

@@ -22,7 +22,9 @@ returns c =
     let c3 = c .before .before in
     let c2 = c3 .before .before .before .before in
     let c1 = c2 .before .before .before .before in
-    then _ (c1 .as-extended .ensures) (then _ (c2 .fsqrt .ensures) (c3 .from-extended .ensures))
+    then _ (c1 .as-extended .ensures)
+    (then _ (c2 .fsqrt .ensures)
+    (c3 .from-extended .ensures))
 
 pub sqrt-spec : {M : Type 1} → statement M
 sqrt-spec =

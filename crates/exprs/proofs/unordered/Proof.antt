@@ -22,7 +22,9 @@ returns c =
     let c3 = c .before .before in
     let c2 = c3 .before .before .before .before in
     let c1 = c2 .before .before .before .before in
-    then _ (c1 .fisnan .ensures) (then _ (c2 .fisnan2 .ensures) (c3 .bool-or .ensures))
+    then _ (c1 .fisnan .ensures)
+    (then _ (c2 .fisnan2 .ensures)
+    (c3 .bool-or .ensures))
 
 pub unordered-spec : {M : Type 1} → statement M
 unordered-spec =

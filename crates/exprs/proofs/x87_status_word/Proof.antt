@@ -51,7 +51,17 @@ returns c =
     let c3 = c4 .before .before .before .before in
     let c2 = c3 .before .before .before .before in
     let c1 = c2 .before .before .before .before in
-    then _ (c1 .fresh-status .ensures) (then _ (c2 .extract .ensures) (then _ (c3 .extract2 .ensures) (then _ (c4 .konst .ensures) (then _ (c5 .extract3 .ensures) (then _ (c6 .concat .ensures) (then _ (c7 .concat2 .ensures) (then _ (c8 .concat3 .ensures) (then _ (c9 .concat4 .ensures) (then _ (c10 .concat5 .ensures) (c11 .concat6 .ensures))))))))))
+    then _ (c1 .fresh-status .ensures)
+    (then _ (c2 .extract .ensures)
+    (then _ (c3 .extract2 .ensures)
+    (then _ (c4 .konst .ensures)
+    (then _ (c5 .extract3 .ensures)
+    (then _ (c6 .concat .ensures)
+    (then _ (c7 .concat2 .ensures)
+    (then _ (c8 .concat3 .ensures)
+    (then _ (c9 .concat4 .ensures)
+    (then _ (c10 .concat5 .ensures)
+    (c11 .concat6 .ensures))))))))))
 
 same-length : tie.Need-same-length
 same-length c = long (returns c)

@@ -13,9 +13,6 @@ push-const-requires c κs = search needs
 enum-known-form-2 : tie.Need-enum-known-form-2
 enum-known-form-2 c = search needs
 
-cast-push-memory : tie.Need-cast-push-memory
-cast-push-memory c = search needs
-
 push-memory-requires : tie.Need-push-memory-requires
 push-memory-requires c κs = search needs
 
@@ -27,9 +24,6 @@ push-slot-requires c κs = search needs
 
 enum-known-form-4 : tie.Need-enum-known-form-4
 enum-known-form-4 c = search needs
-
-cast-x87-store-memory : tie.Need-cast-x87-store-memory
-cast-x87-store-memory c = search needs
 
 x87-store-memory-requires : tie.Need-x87-store-memory-requires
 x87-store-memory-requires c κs = search needs
@@ -197,12 +191,10 @@ apply-x87-spec =
     enum-known-form
     push-const-requires
     enum-known-form-2
-    cast-push-memory
     push-memory-requires
     enum-known-form-3
     push-slot-requires
     enum-known-form-4
-    cast-x87-store-memory
     x87-store-memory-requires
     enum-known-form-5
     store-slot-requires

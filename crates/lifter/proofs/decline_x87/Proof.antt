@@ -18,7 +18,7 @@ returns : tie.Need-returns
 unfolding declineX87Of
 returns c =
     let c2 = c .before .before in
-    let c1 = c2 .before in
+    let c1 = c2 .before .before in
     tell _ (rw (c1 .havoc .ensures) at (c2 .statement .ensures)) (hush refl refl)
 
 pub decline-x87-spec : {M : Type 1} → statement M

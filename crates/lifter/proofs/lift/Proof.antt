@@ -33,7 +33,7 @@ returns : tie.Need-returns
 unfolding liftOf
 returns c =
     let v = sym (rw (c .before .before .before .before .before .before .before .before .before .before .before .before .room .ensures, c .before .before .before .before .before .before .before .before .before .before .before .room2 .ensures) at (c .before .before .before .before .before .before .before .before .before .before .valid .ensures)) ∙ c .before .before .before .before .before .before .before .before .before .if1 .taken in
-    rw v (rw (c .before .before .before .before .before .before .classify .ensures, c .before .before .before .before .before .site-of .ensures) at (c .before .before .before .before .fit .ensures))
+    rw v (rw (c .before .before .before .before .before .before .before .before .classify .ensures, c .before .before .before .before .before .site-of .ensures) at (c .before .before .before .before .fit .ensures))
 
 returns-2 : tie.Need-returns-2
 unfolding liftOf

@@ -28,7 +28,9 @@ unfolding readOperandLoweredOf
 returns c =
     let c2 = c .before .before in
     let c1 = c2 .before .before .before .before .before .before in
-    both _ (nodes (c1 .variable .ensures)) (both _ (statements (c2 .statement .ensures)) (still refl refl))
+    both _ (nodes (c1 .variable .ensures))
+    (both _ (statements (c2 .statement .ensures))
+    (still refl refl))
 
 pub read-operand-lowered-spec : {M : Type 1} → statement M
 read-operand-lowered-spec =

@@ -13,9 +13,6 @@ read-requires c κs = search needs
 enum-known-src-2 : tie.Need-enum-known-src-2
 enum-known-src-2 c = search needs
 
-cast-x87-memory-read : tie.Need-cast-x87-memory-read
-cast-x87-memory-read c = search needs
-
 x87-memory-read-requires : tie.Need-x87-memory-read-requires
 x87-memory-read-requires c κs = search needs
 
@@ -43,7 +40,6 @@ source-spec =
     enum-known-src
     read-requires
     enum-known-src-2
-    cast-x87-memory-read
     x87-memory-read-requires
     same-length
     returns

@@ -22,7 +22,9 @@ unfolding storeSlotOf
 returns c =
     let c2 = c .before .before .before in
     let c1 = c2 .before .before .before .before in
-    then _ (c1 .read .ensures) (then _ (c2 .write .ensures) (same (c .drop-if .ensures) refl))
+    then _ (c1 .read .ensures)
+    (then _ (c2 .write .ensures)
+    (same (c .drop-if .ensures) refl))
 
 pub store-slot-spec : {M : Type 1} → statement M
 store-slot-spec =

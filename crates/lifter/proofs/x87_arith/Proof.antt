@@ -27,7 +27,11 @@ returns c =
     let c3 = c4 .before .before .before .before in
     let c2 = c3 .before .before .before .before .before .before in
     let c1 = c2 .before .before .before .before .before in
-    both _ (nodes (c1 .read .ensures)) (both _ (c2 .source .ensures) (both _ (nodes (c3 .ordered .ensures)) (both _ (nodes (c4 .write .ensures)) (still (c .drop-if .ensures) refl))))
+    both _ (nodes (c1 .read .ensures))
+    (both _ (c2 .source .ensures)
+    (both _ (nodes (c3 .ordered .ensures))
+    (both _ (nodes (c4 .write .ensures))
+    (still (c .drop-if .ensures) refl))))
 
 same-length-2 : tie.Need-same-length-2
 same-length-2 c = long-statements (returns c)

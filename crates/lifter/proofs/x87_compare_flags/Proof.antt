@@ -75,7 +75,23 @@ returns c =
     let c3 = c4 .before .before .before .before in
     let c2 = c3 .before .before .before .before in
     let c1 = c2 .before .before .before .before in
-    both _ (nodes (c1 .read .ensures)) (both _ (nodes (c2 .as-extended .ensures)) (both _ (nodes (c3 .read2 .ensures)) (both _ (nodes (c4 .as-extended2 .ensures)) (both _ (nodes (c5 .unordered .ensures)) (both _ (statements (c6 .set-flag .ensures)) (both _ (nodes (c7 .feq .ensures)) (both _ (nodes (c8 .bool-or .ensures)) (both _ (statements (c9 .set-flag2 .ensures)) (both _ (nodes (c10 .flt .ensures)) (both _ (nodes (c11 .bool-or2 .ensures)) (both _ (statements (c12 .set-flag3 .ensures)) (both _ (nodes (c13 .konst .ensures)) (both _ (statements (c14 .set-flag4 .ensures)) (both _ (nodes (c15 .konst2 .ensures)) (both _ (statements (c16 .set-flag5 .ensures)) (still (c .drop-if .ensures) refl))))))))))))))))
+    both _ (nodes (c1 .read .ensures))
+    (both _ (nodes (c2 .as-extended .ensures))
+    (both _ (nodes (c3 .read2 .ensures))
+    (both _ (nodes (c4 .as-extended2 .ensures))
+    (both _ (nodes (c5 .unordered .ensures))
+    (both _ (statements (c6 .set-flag .ensures))
+    (both _ (nodes (c7 .feq .ensures))
+    (both _ (nodes (c8 .bool-or .ensures))
+    (both _ (statements (c9 .set-flag2 .ensures))
+    (both _ (nodes (c10 .flt .ensures))
+    (both _ (nodes (c11 .bool-or2 .ensures))
+    (both _ (statements (c12 .set-flag3 .ensures))
+    (both _ (nodes (c13 .konst .ensures))
+    (both _ (statements (c14 .set-flag4 .ensures))
+    (both _ (nodes (c15 .konst2 .ensures))
+    (both _ (statements (c16 .set-flag5 .ensures))
+    (still (c .drop-if .ensures) refl))))))))))))))))
 
 same-length-2 : tie.Need-same-length-2
 same-length-2 c = long-statements (returns c)

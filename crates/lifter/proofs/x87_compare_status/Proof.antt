@@ -58,7 +58,18 @@ returns c =
     let c3 = c4 .before .before .before .before .before .before in
     let c2 = c3 .before .before .before .before .before in
     let c1 = c2 .before .before .before .before in
-    both _ (nodes (c1 .read .ensures)) (both _ (nodes (c2 .as-extended .ensures)) (both _ (c3 .source .ensures) (both _ (nodes (c4 .as-extended2 .ensures)) (both _ (nodes (c5 .unordered .ensures)) (both _ (nodes (c6 .feq .ensures)) (both _ (nodes (c7 .flt .ensures)) (both _ (nodes (c8 .bool-or .ensures)) (both _ (nodes (c9 .bool-or2 .ensures)) (both _ (nodes (c10 .x87-status-word .ensures)) (both _ (statements (c11 .statement .ensures)) (still (c .drop-times .ensures) refl)))))))))))
+    both _ (nodes (c1 .read .ensures))
+    (both _ (nodes (c2 .as-extended .ensures))
+    (both _ (c3 .source .ensures)
+    (both _ (nodes (c4 .as-extended2 .ensures))
+    (both _ (nodes (c5 .unordered .ensures))
+    (both _ (nodes (c6 .feq .ensures))
+    (both _ (nodes (c7 .flt .ensures))
+    (both _ (nodes (c8 .bool-or .ensures))
+    (both _ (nodes (c9 .bool-or2 .ensures))
+    (both _ (nodes (c10 .x87-status-word .ensures))
+    (both _ (statements (c11 .statement .ensures))
+    (still (c .drop-times .ensures) refl)))))))))))
 
 same-length-2 : tie.Need-same-length-2
 same-length-2 c = long-statements (returns c)

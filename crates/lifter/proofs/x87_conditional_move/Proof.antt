@@ -27,7 +27,11 @@ returns c =
     let c3 = c4 .before .before .before .before in
     let c2 = c3 .before .before .before .before in
     let c1 = c2 .before .before .before .before in
-    then _ (c1 .read .ensures) (then _ (c2 .read2 .ensures) (then _ (c3 .predicate .ensures) (then _ (c4 .ite .ensures) (c5 .write .ensures))))
+    then _ (c1 .read .ensures)
+    (then _ (c2 .read2 .ensures)
+    (then _ (c3 .predicate .ensures)
+    (then _ (c4 .ite .ensures)
+    (c5 .write .ensures))))
 
 same-length : tie.Need-same-length
 same-length c = long (returns c)

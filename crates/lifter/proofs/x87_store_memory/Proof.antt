@@ -25,7 +25,9 @@ returns c =
     let c3 = c .before .before in
     let c2 = c3 .before .before .before .before in
     let c1 = c2 .before .before .before .before in
-    both _ (nodes (c1 .top .ensures)) (both _ (nodes (c2 .from-slot .ensures)) (statements (c3 .write-dst .ensures)))
+    both _ (nodes (c1 .top .ensures))
+    (both _ (nodes (c2 .from-slot .ensures))
+    (statements (c3 .write-dst .ensures)))
 
 pub x87-store-memory-spec : {M : Type 1} → statement M
 x87-store-memory-spec =

@@ -19,7 +19,9 @@ returns c =
     let c3 = c .before .before in
     let c2 = c3 .before .before .before .before in
     let c1 = c2 .before .before .before .before in
-    then _ (c1 .read .ensures) (then _ (c2 .unary .ensures) (c3 .write .ensures))
+    then _ (c1 .read .ensures)
+    (then _ (c2 .unary .ensures)
+    (c3 .write .ensures))
 
 same-length : tie.Need-same-length
 same-length c = long (returns c)

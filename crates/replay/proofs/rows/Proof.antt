@@ -4,10 +4,10 @@ use Rattle.replay.proofs.rows.Statement.{statement}
 use Rattle.replay.proofs.rows.Tie as tie
 
 abbrev Inv-loop : tie.InvT-loop
-Inv-loop fd records n₀ n = n ≤ 1000000
+Inv-loop fd file n₀ n = n ≤ 1000000
 
 abbrev μ-loop : tie.MeasureT-loop
-μ-loop fd records n₀ n = 1000000 - n
+μ-loop fd file n₀ n = 1000000 - n
 
 loop-holds : tie.Need-loop-holds Inv-loop μ-loop
 loop-holds c = search needs

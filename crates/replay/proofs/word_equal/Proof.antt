@@ -1,20 +1,17 @@
 use borrow.Author.Needs.{needs}
-use Prim.Native.Nat.{_≤_, _-_, _+_}
+use Prim.Native.Nat.{_≤_, _-_}
 use lib.ListN.{length}
 use Rattle.replay.proofs.word_equal.Statement.{statement}
 use Rattle.replay.proofs.word_equal.Tie as tie
 
 abbrev Inv-loop : tie.InvT-loop
-Inv-loop w s at v₀ i₀ v i = (i ≤ 8) × (at + 8 ≤ length s)
+Inv-loop w s v₀ i₀ v i = i ≤ length s
 
 abbrev μ-loop : tie.MeasureT-loop
-μ-loop w s at v₀ i₀ v i = 8 - i
+μ-loop w s v₀ i₀ v i = length s - i
 
 loop-holds : tie.Need-loop-holds Inv-loop μ-loop
 loop-holds c = search needs
-
-add-wide : tie.Need-add-wide Inv-loop μ-loop
-add-wide c = search needs
 
 shared-slice-read-wide : tie.Need-shared-slice-read-wide Inv-loop μ-loop
 shared-slice-read-wide c = search needs
@@ -44,7 +41,6 @@ word-equal-spec =
     Inv-loop
     μ-loop
     loop-holds
-    add-wide
     shared-slice-read-wide
     wide-requires
     add-i

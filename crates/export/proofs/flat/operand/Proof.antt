@@ -9,23 +9,23 @@ add-text c = search needs
 text-requires : tie.Need-text-requires
 text-requires c κs = search needs
 
-add-number : tie.Need-add-number
-add-number c = search needs
+add-two : tie.Need-add-two
+add-two c = search needs
 
-number-requires : tie.Need-number-requires
-number-requires c κs = search needs
+two-requires : tie.Need-two-requires
+two-requires c κs = search needs
 
-add-number-2 : tie.Need-add-number-2
-add-number-2 c = search needs
+add-four : tie.Need-add-four
+add-four c = search needs
 
-number-requires-2 : tie.Need-number-requires-2
-number-requires-2 c κs = search needs
+four-requires : tie.Need-four-requires
+four-requires c κs = search needs
 
-add-number-3 : tie.Need-add-number-3
-add-number-3 c = search needs
+add-four-2 : tie.Need-add-four-2
+add-four-2 c = search needs
 
-number-requires-3 : tie.Need-number-requires-3
-number-requires-3 c κs = search needs
+four-requires-2 : tie.Need-four-requires-2
+four-requires-2 c κs = search needs
 
 shared-slice-read-t9 : tie.Need-shared-slice-read-t9
 shared-slice-read-t9 c = search needs
@@ -47,7 +47,7 @@ cast-t14 c = search needs
 
 returns : tie.Need-returns
 unfolding operandIn
-returns c = rw (c .before .before .before .before .before .text .ensures, c .before .before .before .before .number .ensures .0, c .before .before .before .number2 .ensures .0, c .before .before .number3 .ensures .0)
+returns c = rw (c .before .before .before .before .before .text .ensures, c .before .before .before .before .two .ensures .0, c .before .before .before .four .ensures .0, c .before .before .four2 .ensures .0)
 
 pub operand-spec : {M : Type 1} → statement M
 operand-spec =
@@ -55,12 +55,12 @@ operand-spec =
     (tie.spec
     add-text
     text-requires
-    add-number
-    number-requires
-    add-number-2
-    number-requires-2
-    add-number-3
-    number-requires-3
+    add-two
+    two-requires
+    add-four
+    four-requires
+    add-four-2
+    four-requires-2
     shared-slice-read-t9
     cast-t10
     add-t7

@@ -4,8 +4,8 @@ use borrow.Author.Needs.{needs}
 use Rattle.export.proofs.flat.read.Statement.{statement}
 use Rattle.export.proofs.flat.read.Tie as tie
 
-number-requires : tie.Need-number-requires
-number-requires c κs = search needs
+eight-requires : tie.Need-eight-requires
+eight-requires c κs = search needs
 
 text-requires : tie.Need-text-requires
 text-requires c κs = search needs
@@ -27,13 +27,13 @@ cast-t10 c = omega (arith, c .shared-slice-known2 .given 41)
 
 returns : tie.Need-returns
 unfolding insnOf
-returns c = rw (c .before .before .before .before .before .number .ensures .0, c .before .before .before .before .text .ensures, c .before .before .before .operand .ensures, c .before .before .operand2 .ensures, c .before .operand3 .ensures)
+returns c = rw (c .before .before .before .before .before .eight .ensures, c .before .before .before .before .text .ensures, c .before .before .before .operand .ensures, c .before .before .operand2 .ensures, c .before .operand3 .ensures)
 
 pub read-spec : {M : Type 1} → statement M
 read-spec =
     tie.close
     (tie.spec
-    number-requires
+    eight-requires
     text-requires
     operand-requires
     operand-requires-2

@@ -1,0 +1,3 @@
+pub mod Column
+pub mod Node
+pub mod Ends

@@ -1,0 +1,184 @@
+use mathlib.Core.Path.{_∙_}
+use native.Mathlib.Nat.{mod-eq-of-lt}
+use borrow.Author.Tests.{ne-eqb}
+use Rattle.evaluator.specs.Value.{computed}
+use borrow.Author.Needs.{needs}
+use Rattle.evaluator.proofs.compute.Statement.{statement}
+use Rattle.evaluator.proofs.compute.Tie as tie
+
+and-requires : tie.Need-and-requires
+and-requires c κs = search needs
+
+xor-requires : tie.Need-xor-requires
+xor-requires c κs = search needs
+
+eq-requires : tie.Need-eq-requires
+eq-requires c κs = search needs
+
+flag-requires : tie.Need-flag-requires
+flag-requires c κs = search needs
+
+is-one-requires : tie.Need-is-one-requires
+is-one-requires c κs = search needs
+
+is-one-requires-2 : tie.Need-is-one-requires-2
+is-one-requires-2 c κs = search needs
+
+flag-requires-2 : tie.Need-flag-requires-2
+flag-requires-2 c κs = search needs
+
+is-one-requires-3 : tie.Need-is-one-requires-3
+is-one-requires-3 c κs = search needs
+
+is-one-requires-4 : tie.Need-is-one-requires-4
+is-one-requires-4 c κs = search needs
+
+flag-requires-3 : tie.Need-flag-requires-3
+flag-requires-3 c κs = search needs
+
+is-one-requires-5 : tie.Need-is-one-requires-5
+is-one-requires-5 c κs = search needs
+
+flag-requires-4 : tie.Need-flag-requires-4
+flag-requires-4 c κs = search needs
+
+is-one-requires-6 : tie.Need-is-one-requires-6
+is-one-requires-6 c κs = search needs
+
+choose-requires : tie.Need-choose-requires
+choose-requires c κs = search needs
+
+extract-requires : tie.Need-extract-requires
+extract-requires c κs = search needs
+
+concat-requires : tie.Need-concat-requires
+concat-requires c κs = search needs
+
+equal-requires : tie.Need-equal-requires
+equal-requires c κs = search needs
+
+flag-requires-5 : tie.Need-flag-requires-5
+flag-requires-5 c κs = search needs
+
+less-requires : tie.Need-less-requires
+less-requires c κs = search needs
+
+flag-requires-6 : tie.Need-flag-requires-6
+flag-requires-6 c κs = search needs
+
+is-nan-requires : tie.Need-is-nan-requires
+is-nan-requires c κs = search needs
+
+flag-requires-7 : tie.Need-flag-requires-7
+flag-requires-7 c κs = search needs
+
+canonical-requires : tie.Need-canonical-requires
+canonical-requires c κs = search needs
+
+returns : tie.Need-returns
+unfolding computed
+returns c = rw (c .match .keys1)
+
+returns-2 : tie.Need-returns-2
+unfolding computed
+returns-2 c = rw (c .before .match .keys2, c .and .ensures)
+
+returns-3 : tie.Need-returns-3
+unfolding computed
+returns-3 c = rw (c .before .match .keys3, c .xor .ensures)
+
+returns-4 : tie.Need-returns-4
+unfolding computed
+returns-4 c = rw (c .before .before .match .keys4, c .flag .ensures, c .before .eq .ensures)
+
+returns-5 : tie.Need-returns-5
+unfolding computed
+returns-5 c = rw (c .before .before .before .match .keys5, c .flag2 .ensures, c .before .is-one2 .ensures, c .before .before .is-one .ensures)
+
+returns-6 : tie.Need-returns-6
+unfolding computed
+returns-6 c = rw (c .before .before .before .match .keys6, c .flag3 .ensures, c .before .is-one4 .ensures, c .before .before .is-one3 .ensures)
+
+returns-7 : tie.Need-returns-7
+unfolding computed
+returns-7 c = rw (c .before .before .match .keys7, c .flag4 .ensures, c .before .is-one5 .ensures)
+
+returns-8 : tie.Need-returns-8
+unfolding computed
+returns-8 c = rw (c .before .before .match .keys8, c .choose .ensures, c .before .is-one6 .ensures)
+
+returns-9 : tie.Need-returns-9
+unfolding computed
+returns-9 c = rw (c .before .match .keys9, c .extract .ensures)
+
+returns-10 : tie.Need-returns-10
+unfolding computed
+returns-10 c = rw (c .before .match .keys10) (c .concat .ensures ∙ mod-eq-of-lt (c .before .before .pre (c .before .match .keys10)))
+
+returns-11 : tie.Need-returns-11
+unfolding computed
+returns-11 c = rw (c .before .before .match .keys11, c .flag5 .ensures, c .before .equal .ensures)
+
+returns-12 : tie.Need-returns-12
+unfolding computed
+returns-12 c = rw (c .before .before .match .keys12, c .flag6 .ensures, c .before .less .ensures)
+
+returns-13 : tie.Need-returns-13
+unfolding computed
+returns-13 c = rw (c .before .before .match .keys13, c .flag7 .ensures, c .before .is-nan .ensures)
+
+returns-14 : tie.Need-returns-14
+unfolding computed
+returns-14 c = rw (c .before .match .keys14, c .canonical .ensures)
+
+returns-15 : tie.Need-returns-15
+unfolding computed
+returns-15 c = rw (c .match .keys15)
+
+returns-16 : tie.Need-returns-16
+unfolding computed
+returns-16 c = simp (ne-eqb _ _ (c .match .rest .1), ne-eqb _ _ (c .match .rest .0 .1), ne-eqb _ _ (c .match .rest .0 .0 .1), ne-eqb _ _ (c .match .rest .0 .0 .0 .1), ne-eqb _ _ (c .match .rest .0 .0 .0 .0 .1), ne-eqb _ _ (c .match .rest .0 .0 .0 .0 .0 .1), ne-eqb _ _ (c .match .rest .0 .0 .0 .0 .0 .0 .1), ne-eqb _ _ (c .match .rest .0 .0 .0 .0 .0 .0 .0 .1), ne-eqb _ _ (c .match .rest .0 .0 .0 .0 .0 .0 .0 .0 .1), ne-eqb _ _ (c .match .rest .0 .0 .0 .0 .0 .0 .0 .0 .0 .1), ne-eqb _ _ (c .match .rest .0 .0 .0 .0 .0 .0 .0 .0 .0 .0 .1), ne-eqb _ _ (c .match .rest .0 .0 .0 .0 .0 .0 .0 .0 .0 .0 .0 .1), ne-eqb _ _ (c .match .rest .0 .0 .0 .0 .0 .0 .0 .0 .0 .0 .0 .0 .1), ne-eqb _ _ (c .match .rest .0 .0 .0 .0 .0 .0 .0 .0 .0 .0 .0 .0 .0 .1), ne-eqb _ _ (c .match .rest .0 .0 .0 .0 .0 .0 .0 .0 .0 .0 .0 .0 .0 .0 .1))
+
+pub compute-spec : {M : Type 1} → statement M
+compute-spec =
+    tie.close
+    (tie.spec
+    and-requires
+    xor-requires
+    eq-requires
+    flag-requires
+    is-one-requires
+    is-one-requires-2
+    flag-requires-2
+    is-one-requires-3
+    is-one-requires-4
+    flag-requires-3
+    is-one-requires-5
+    flag-requires-4
+    is-one-requires-6
+    choose-requires
+    extract-requires
+    concat-requires
+    equal-requires
+    flag-requires-5
+    less-requires
+    flag-requires-6
+    is-nan-requires
+    flag-requires-7
+    canonical-requires
+    returns
+    returns-2
+    returns-3
+    returns-4
+    returns-5
+    returns-6
+    returns-7
+    returns-8
+    returns-9
+    returns-10
+    returns-11
+    returns-12
+    returns-13
+    returns-14
+    returns-15
+    returns-16)

@@ -1,0 +1,204 @@
+use mathlib.Core.Path.{_≡_, refl, sym, _∙_, ap}
+use native.Mathlib.Omega.{arith}
+use Prim.Native.Nat.{ℕ}
+use lib.ListN.{length, replicate, length-replicate}
+use Rattle.sorts.specs.Check.{checkOf, tabulateOf}
+use Rattle.sorts.specs.Laws.{tabulate-all, passed-room}
+use Rattle.sorts.specs.declared.Verdict.{Verdict}
+use Rattle.evaluator.specs.Laws.{done-fits}
+use Rattle.evaluator.specs.Outcome.{after}
+use Rattle.evaluator.specs.Lists.{wideFrom}
+use Rattle.evaluator.proofs.Ends.{table-sorts, table-long, no-given, no-column, outcome-after}
+use borrow.Author.Needs.{needs}
+use Rattle.evaluator.proofs.evaluate.Statement.{statement}
+use Rattle.evaluator.proofs.evaluate.Tie as tie
+
+returns : tie.Need-returns
+returns c =
+    let a = c .before .before .before .before .args in
+    let w = a .nodes .now in
+    let g = a .given .now in
+    let n = a .count in
+    let m = length (a .column .now) in
+    (sym (no-given w g n m (c .if1 .taken)), refl)
+
+returns-2 : tie.Need-returns-2
+returns-2 c =
+    let a = c .before .before .before .before .before .args in
+    let w = a .nodes .now in
+    let g = a .given .now in
+    let n = a .count in
+    let m = length (a .column .now) in
+    (sym (no-column w g n m (c .if2 .taken)), refl)
+
+slice-aggregate-tabulate : tie.Need-slice-aggregate-tabulate
+slice-aggregate-tabulate c = search needs
+
+tabulate-requires : tie.Need-tabulate-requires
+tabulate-requires c κs = search needs
+
+enum-told : tie.Need-enum-told
+enum-told c = search needs
+
+enum-known-i : tie.Need-enum-known-i
+enum-known-i c = search needs
+
+enum-told-2 : tie.Need-enum-told-2
+enum-told-2 c = search needs
+
+slice-aggregate-first-wide : tie.Need-slice-aggregate-first-wide
+slice-aggregate-first-wide c = search needs
+
+first-wide-requires : tie.Need-first-wide-requires
+first-wide-requires c κs =
+    let a = c .before .before .before .before .before .before .before .before .before .before .before .args in
+    let w = a .nodes .now in
+    let g = a .given .now in
+    let n = a .count in
+    let m = length (a .column .now) in
+    let t = c .before .before .before .before .tabulate in
+    let v : t .result ≡ checkOf w n = t .ensures .0 ∙ ap (tabulateOf w n) (length-replicate {A = ℕ} 65536 0) ∙ tabulate-all w n in
+    let p = c .before .enum-told2 .given .1 in
+    let r = passed-room w n (sym v ∙ p) in
+    record {
+      words = omega (arith, r .held);
+      gave = omega arith;
+      few = r .few;
+      long = table-long w (replicate 65536 0) _ n (t .result) p (t .ensures .1);
+      table = table-sorts w (replicate 65536 0) _ n (t .result) p (t .ensures .1);
+    }
+
+enum-told-3 : tie.Need-enum-told-3
+enum-told-3 c = search needs
+
+slice-aggregate-run : tie.Need-slice-aggregate-run
+slice-aggregate-run c = search needs
+
+run-requires : tie.Need-run-requires
+run-requires c κs =
+    let a = c .before .before .before .before .before .before .before .before .before .before .before .before .before .before .before .before .args in
+    let w = a .nodes .now in
+    let g = a .given .now in
+    let n = a .count in
+    let m = length (a .column .now) in
+    let t = c .before .before .before .before .before .before .before .before .before .tabulate in
+    let v : t .result ≡ checkOf w n = t .ensures .0 ∙ ap (tabulateOf w n) (length-replicate {A = ℕ} 65536 0) ∙ tabulate-all w n in
+    let p = c .before .before .before .before .before .before .enum-told2 .given .1 in
+    let r = passed-room w n (sym v ∙ p) in
+    record {
+      scan = record {
+        words = omega (arith, r .held);
+        gave = omega arith;
+        few = r .few;
+        long = table-long w (replicate 65536 0) _ n (t .result) p (t .ensures .1);
+        table = table-sorts w (replicate 65536 0) _ n (t .result) p (t .ensures .1);
+      };
+      room = omega arith;
+      passes = r .passes;
+      given = done-fits w g n (sym (c .before .before .before .before .first-wide .ensures) ∙ c .before .before .enum-told3 .given .1);
+    }
+
+enum-known-i-2 : tie.Need-enum-known-i-2
+enum-known-i-2 c = search needs
+
+enum-known-i-3 : tie.Need-enum-known-i-3
+enum-known-i-3 c = search needs
+
+enum-told-4 : tie.Need-enum-told-4
+enum-told-4 c = search needs
+
+returns-3 : tie.Need-returns-3
+returns-3 c =
+    let a = c .before .before .before .before .before .before .before .before .before .before .args in
+    let w = a .nodes .now in
+    let g = a .given .now in
+    let n = a .count in
+    let m = length (a .column .now) in
+    let t = c .before .before .before .tabulate in
+    let v : t .result ≡ checkOf w n = t .ensures .0 ∙ ap (tabulateOf w n) (length-replicate {A = ℕ} 65536 0) ∙ tabulate-all w n in
+    (sym (outcome-after w g n m (t .result) (omega arith) (omega arith) v ∙ ap (λ (x : Verdict). after x (wideFrom w g 0 n)) (c .enum-told .given .1)), refl)
+
+returns-4 : tie.Need-returns-4
+returns-4 c =
+    let a = c .before .before .before .before .before .before .before .before .before .before .before .args in
+    let w = a .nodes .now in
+    let g = a .given .now in
+    let n = a .count in
+    let m = length (a .column .now) in
+    let t = c .before .before .before .before .tabulate in
+    let v : t .result ≡ checkOf w n = t .ensures .0 ∙ ap (tabulateOf w n) (length-replicate {A = ℕ} 65536 0) ∙ tabulate-all w n in
+    (sym (outcome-after w g n m (t .result) (omega arith) (omega arith) v ∙ ap (λ (x : Verdict). after x (wideFrom w g 0 n)) (c .before .i .given .1)), refl)
+
+same-length : tie.Need-same-length
+same-length c = search needs
+
+returns-5 : tie.Need-returns-5
+returns-5 c =
+    let a = c .before .before .before .before .before .before .before .before .before .before .before .before .before .before .before .before .before .before .before .args in
+    let w = a .nodes .now in
+    let g = a .given .now in
+    let n = a .count in
+    let m = length (a .column .now) in
+    let t = c .before .before .before .before .before .before .before .before .before .before .before .before .tabulate in
+    let v : t .result ≡ checkOf w n = t .ensures .0 ∙ ap (tabulateOf w n) (length-replicate {A = ℕ} 65536 0) ∙ tabulate-all w n in
+    (sym (outcome-after w g n m (t .result) (omega arith) (omega arith) v ∙ ap (λ (x : Verdict). after x (wideFrom w g 0 n)) (c .before .before .before .before .before .before .before .before .before .enum-told2 .given .1) ∙ sym (c .before .before .before .before .before .before .before .first-wide .ensures) ∙ c .before .before .before .before .before .enum-told3 .given .1), c .before .before .run .ensures)
+
+returns-6 : tie.Need-returns-6
+returns-6 c =
+    let a = c .before .before .before .before .before .before .before .before .before .before .before .before .before .before .before .args in
+    let w = a .nodes .now in
+    let g = a .given .now in
+    let n = a .count in
+    let m = length (a .column .now) in
+    let t = c .before .before .before .before .before .before .before .before .tabulate in
+    let v : t .result ≡ checkOf w n = t .ensures .0 ∙ ap (tabulateOf w n) (length-replicate {A = ℕ} 65536 0) ∙ tabulate-all w n in
+    (sym (outcome-after w g n m (t .result) (omega arith) (omega arith) v ∙ ap (λ (x : Verdict). after x (wideFrom w g 0 n)) (c .before .before .before .before .before .enum-told2 .given .1) ∙ sym (c .before .before .before .first-wide .ensures) ∙ c .before .i2 .given .1), refl)
+
+returns-7 : tie.Need-returns-7
+returns-7 c =
+    let a = c .before .before .before .before .before .before .before .before .before .before .before .before .before .before .before .args in
+    let w = a .nodes .now in
+    let g = a .given .now in
+    let n = a .count in
+    let m = length (a .column .now) in
+    let t = c .before .before .before .before .before .before .before .before .tabulate in
+    let v : t .result ≡ checkOf w n = t .ensures .0 ∙ ap (tabulateOf w n) (length-replicate {A = ℕ} 65536 0) ∙ tabulate-all w n in
+    (sym (outcome-after w g n m (t .result) (omega arith) (omega arith) v ∙ ap (λ (x : Verdict). after x (wideFrom w g 0 n)) (c .before .before .before .before .before .enum-told2 .given .1) ∙ sym (c .before .before .before .first-wide .ensures) ∙ c .before .i3 .given .1), refl)
+
+returns-8 : tie.Need-returns-8
+returns-8 c =
+    let a = c .before .before .before .before .before .before .before .before .before .before .before .before .before .before .args in
+    let w = a .nodes .now in
+    let g = a .given .now in
+    let n = a .count in
+    let m = length (a .column .now) in
+    let t = c .before .before .before .before .before .before .before .tabulate in
+    let v : t .result ≡ checkOf w n = t .ensures .0 ∙ ap (tabulateOf w n) (length-replicate {A = ℕ} 65536 0) ∙ tabulate-all w n in
+    (sym (outcome-after w g n m (t .result) (omega arith) (omega arith) v ∙ ap (λ (x : Verdict). after x (wideFrom w g 0 n)) (c .before .before .before .before .enum-told2 .given .1) ∙ sym (c .before .before .first-wide .ensures) ∙ c .enum-told4 .given .1), refl)
+
+pub evaluate-spec : {M : Type 1} → statement M
+evaluate-spec =
+    tie.close
+    (tie.spec
+    returns
+    returns-2
+    slice-aggregate-tabulate
+    tabulate-requires
+    enum-told
+    enum-known-i
+    enum-told-2
+    slice-aggregate-first-wide
+    first-wide-requires
+    enum-told-3
+    slice-aggregate-run
+    run-requires
+    enum-known-i-2
+    enum-known-i-3
+    enum-told-4
+    returns-3
+    returns-4
+    same-length
+    returns-5
+    returns-6
+    returns-7
+    returns-8)

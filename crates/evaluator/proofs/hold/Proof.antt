@@ -1,0 +1,22 @@
+use mathlib.Core.Path.{sym, _∙_}
+use Rattle.evaluator.specs.Value.{held}
+use borrow.Author.Needs.{needs}
+use Rattle.evaluator.proofs.hold.Statement.{statement}
+use Rattle.evaluator.proofs.hold.Tie as tie
+
+is-float-requires : tie.Need-is-float-requires
+is-float-requires c κs = search needs
+
+canonical-requires : tie.Need-canonical-requires
+canonical-requires c κs = search needs
+
+returns : tie.Need-returns
+unfolding held
+returns c = rw (sym (c .before .before .is-float .ensures) ∙ c .before .if1 .taken) (c .canonical .ensures)
+
+returns-2 : tie.Need-returns-2
+unfolding held
+returns-2 c = rw (sym (c .before .is-float .ensures) ∙ c .if1 .left)
+
+pub hold-spec : {M : Type 1} → statement M
+hold-spec = tie.close (tie.spec is-float-requires canonical-requires returns returns-2)

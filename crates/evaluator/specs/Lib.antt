@@ -1,0 +1,9 @@
+pub mod Formats
+pub mod Exact
+pub mod Value
+pub mod Lists
+pub mod Outcome
+pub mod Ready
+pub mod Order
+pub mod Fits
+pub mod Laws

@@ -1,0 +1,42 @@
+-- What the two calls answer, and document 01's number for each answer.
+use mathlib.Core.Bool.{cond}
+use mathlib.Core.List.{List, _++_}
+use Prim.Native.Nat.{ℕ, _^_}
+use lib.Dec.{ltb}
+use lib.ListN.{length, take, drop}
+use Rattle.words.specs.declared.Wide.{Wide}
+use Rattle.words.specs.Wide.{val, wideOf}
+use Rattle.image.specs.Bytes.{littleEndian, bytesOf}
+use Rattle.image.specs.Layout.{imageOf, patternIn}
+use Rattle.image.specs.declared.Found.{Found}
+use Rattle.image.specs.declared.Found.the-variants as found
+use Rattle.image.specs.declared.Written.{Written}
+use Rattle.image.specs.declared.Written.the-variants as written
+
+-- reading: 10, then 9, then the pattern
+unfoldable pub readOf : List ℕ → Wide → Found
+readOf b free =
+    cond (ltb (length b) 10) found.Short
+    (cond (ltb (val free) (2 ^ 79)) (found.Pattern (wideOf (patternIn (littleEndian (take 10 b)) (val free))))
+    found.TooWide)
+
+-- writing: 10, then 9, then done
+unfoldable pub writeOf : List ℕ → Wide → Written
+writeOf b p = cond (ltb (length b) 10) written.Short (cond (ltb (val p) (2 ^ 79)) written.Done written.TooWide)
+
+-- the bytes after a write: the image and what was beyond it; as they were where it is refused
+unfoldable pub imageAfter : List ℕ → Wide → List ℕ
+imageAfter b p =
+    cond (ltb (length b) 10) b
+    (cond (ltb (val p) (2 ^ 79)) (bytesOf 10 (imageOf (val p)) ++ drop 10 b)
+    b)
+
+abbrev pub readNumber : Found → ℕ
+readNumber (found.Pattern p) = 0
+readNumber found.TooWide = 9
+readNumber found.Short = 10
+
+abbrev pub writtenNumber : Written → ℕ
+writtenNumber written.Done = 0
+writtenNumber written.TooWide = 9
+writtenNumber written.Short = 10

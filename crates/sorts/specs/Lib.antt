@@ -1,0 +1,5 @@
+pub mod Sorts
+pub mod Lists
+pub mod Check
+pub mod Good
+pub mod Laws

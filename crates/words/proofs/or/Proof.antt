@@ -1,0 +1,11 @@
+use native.Mathlib.Omega.{arith}
+use mathlib.Core.Path.{sym}
+use lib.Bits.{or-block}
+use Rattle.words.proofs.or.Statement.{statement}
+use Rattle.words.proofs.or.Tie as tie
+
+returns : tie.Need-returns
+returns c = let a = c .before .before .before .before .args in sym (or-block 64 (a .x .hi) (a .y .hi) (a .x .lo) (a .y .lo) (omega arith) (omega arith))
+
+pub or-spec : {M : Type 1} → statement M
+or-spec = tie.close (tie.spec returns)
