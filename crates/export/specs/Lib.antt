@@ -1,3 +1,5 @@
 pub mod Flat
 pub mod Answers
 pub mod Lifts
+pub mod Steps
+pub mod Values

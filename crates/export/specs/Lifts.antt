@@ -9,6 +9,7 @@ use Rattle.texts.specs.Bytes.{all}
 use Rattle.lists.specs.Rows.{wrote}
 use Rattle.lists.specs.Steps.{Built}
 use Rattle.lists.specs.declared.State.{State}
+use Rattle.forms.specs.declared.Instruction.{Instruction}
 use Rattle.lifter.specs.Lift.{liftOf}
 use Rattle.export.specs.Flat.{insnOf, laid}
 
@@ -61,12 +62,13 @@ done b s n t =
       statements = wrote t (b .ss);
     }
 
--- 10 where a slice is too short, 5 where a word of the state is no number of 32 bits, else what the lift answers
+-- a lift over a state of 13 words: 5 where one of them is no number of 32 bits
+unfoldable pub liftedIn : Instruction → List ℕ → List ℕ → List ℕ → Lifted
+liftedIn i s n t = cond (all smallIs (take 13 s)) (done (liftOf (stateIn s) i n t) s n t) (unchanged 5 s n t)
+
+-- .. of the instruction in 177 bytes: 10 where a slice is too short
 unfoldable pub liftedOf : List ℕ → List ℕ → List ℕ → List ℕ → Lifted
-liftedOf flat s n t =
-    cond (eqb (length flat) 177 && leb 13 (length s))
-    (cond (all smallIs (take 13 s)) (done (liftOf (stateIn s) (insnOf flat) n t) s n t) (unchanged 5 s n t))
-    (unchanged 10 s n t)
+liftedOf flat s n t = cond (eqb (length flat) 177 && leb 13 (length s)) (liftedIn (insnOf flat) s n t) (unchanged 10 s n t)
 
 pub record Lifts (x : Lifted) (r : ℕ) (s n t : List ℕ) : Type 0 where
   pub answer : r ≡ x .answer

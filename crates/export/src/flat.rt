@@ -1,6 +1,6 @@
 // The flat layout of an instruction: 177 bytes, numbers low byte first.
 ghost use mathlib.Core.Path.{_≡_};
-ghost use Prim.Native.Nat.{_+_, _^_, _<_, _≤_};
+ghost use Prim.Native.Nat.{_+_, _<_, _≤_};
 ghost use lib.ListN.{length, take, drop};
 ghost use Rattle.export.specs.Flat.{numberIn, textIn, operandIn, insnOf, laid, low, textFlat, memoryFlat, operandFlat, flatOf};
 use forms::Instruction;

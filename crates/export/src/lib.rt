@@ -1,14 +1,17 @@
-// What Rust calls: classify, effect, the reader of records and the lifter, on numbers and slices.
+// What Rust calls, on numbers and slices: classify, effect, the reader of records, the lifter, the image, the sort check and the evaluator.
+mod answers;
 mod flat;
 mod state;
-mod words;
+mod values;
 
 ghost use mathlib.Core.Path.{_≡_};
 ghost use Prim.Native.Nat.{_≤_};
 ghost use lib.ListN.{length};
 ghost use Rattle.records.specs.Format.{takenAt};
 ghost use lib.Dec.{leb};
-ghost use Rattle.export.specs.Lifts.{Lifts, liftedOf, keptIf};
+ghost use Rattle.export.specs.Flat.{laid};
+ghost use Rattle.export.specs.Lifts.{Lifts, liftedIn, liftedOf, keptIf};
+ghost use Rattle.export.specs.Steps.{Steps, steppedOf, toldOf};
 ghost use Rattle.export.specs.Answers.{Classifies, Affects, Reads, wroteIf};
 use forms::Instruction;
 use lists::State;
@@ -23,9 +26,9 @@ pub extern "C" fn x87_classify(flat: &[u8], out: &mut [u64]) -> u32
         if 8 <= out.len() {
             let insn = flat::read(flat);
             let answer = forms::classify(insn);
-            let w = words::fields(answer);
-            words::lay(out, &w);
-            return words::number(answer);
+            let w = answers::fields(answer);
+            answers::lay(out, &w);
+            return answers::number(answer);
         }
     }
     10
@@ -40,9 +43,9 @@ pub extern "C" fn x87_effect(flat: &[u8], out: &mut [u64]) -> u32
         if 7 <= out.len() {
             let insn = flat::read(flat);
             let answer = forms::x87_effect(insn);
-            let w = words::effect_fields(answer);
-            words::lay(out, &w);
-            return words::effect_number(answer);
+            let w = answers::effect_fields(answer);
+            answers::lay(out, &w);
+            return answers::effect_number(answer);
         }
     }
     10
@@ -68,11 +71,11 @@ pub extern "C" fn x87_read_record(input: &[u8], at: usize, flat: &mut [u8], out:
             let t = records::read_record(input, Cursor { at: at });
             let o = t.outcome;
             let insn = t.insn;
-            let there = words::is_record(o);
-            let w = [words::place(o) as u64, words::bit(there)];
-            words::lay(out, &w);
+            let there = answers::is_record(o);
+            let w = [answers::place(o) as u64, answers::bit(there)];
+            answers::lay(out, &w);
             write_if(flat, insn, there);
-            return words::outcome_number(o);
+            return answers::outcome_number(o);
         }
     }
     10
@@ -85,11 +88,27 @@ fn keep(state: &mut [u64], s: State, answer: u32)
 {
     if answer <= 2 {
         let w = state::words(s);
-        words::lay(state, &w);
+        answers::lay(state, &w);
     }
 }
 
-// Lifts the instruction that stands in 177 bytes: the state is 13 words, and each list rows of four.
+// Lifts an instruction over a state of 13 words and two lists of rows of four.
+fn lift_in(insn: Instruction, state: &mut [u64], nodes: &mut [u64], statements: &mut [u64]) -> u32
+    requires { ⌜ 13 ≤ length (now state) ⌝ }
+    ensures { λ r. ⌜ Lifts (liftedIn insn (now (state .entry)) (now (nodes .entry)) (now (statements .entry))) r (now (state .exit)) (now (nodes .exit)) (now (statements .exit)) ⌝ }
+{
+    if state::small(state) {
+        let s = state::read(state);
+        let done = lifter::lift(nodes, statements, s, insn);
+        let next = done.state;
+        let answer = done.answer;
+        keep(state, next, answer);
+        return answer;
+    }
+    5
+}
+
+// Lifts the instruction that stands in 177 bytes.
 #[no_mangle]
 pub extern "C" fn x87_lift(
     flat: &[u8],
@@ -101,16 +120,53 @@ pub extern "C" fn x87_lift(
 {
     if flat.len() == 177 {
         if 13 <= state.len() {
-            if state::small(state) {
-                let insn = flat::read(flat);
-                let s = state::read(state);
-                let done = lifter::lift(nodes, statements, s, insn);
-                let next = done.state;
-                let answer = done.answer;
-                keep(state, next, answer);
+            let insn = flat::read(flat);
+            return lift_in(insn, state, nodes, statements);
+        }
+    }
+    10
+}
+
+// Writes the two words beside a record's answer.
+fn tell(out: &mut [u64], answer: u32, next: usize, at: usize)
+    requires { ⌜ 2 ≤ length (now out) ⌝ }
+    ensures { λ _. ⌜ now (out .exit) ≡ laid (now (out .entry)) 0 (toldOf answer next at) ⌝ }
+{
+    if answer <= 2 {
+        let w = [next as u64, 1];
+        answers::lay(out, &w);
+    } else {
+        let w = [at as u64, 0];
+        answers::lay(out, &w);
+    }
+}
+
+// Reads the record at a place and lifts its instruction.
+#[no_mangle]
+pub extern "C" fn x87_lift_record(
+    input: &[u8],
+    at: usize,
+    state: &mut [u64],
+    nodes: &mut [u64],
+    statements: &mut [u64],
+    out: &mut [u64],
+) -> u32
+    ensures { λ r. ⌜ Steps (steppedOf (takenAt (now (input .entry)) at) at (now (state .entry)) (now (nodes .entry)) (now (statements .entry)) (now (out .entry))) (now (out .entry)) r (now (state .exit)) (now (nodes .exit)) (now (statements .exit)) (now (out .exit)) ⌝ }
+{
+    if 13 <= state.len() {
+        if 2 <= out.len() {
+            let t = records::read_record(input, Cursor { at: at });
+            let o = t.outcome;
+            let insn = t.insn;
+            let next = answers::place(o);
+            if answers::is_record(o) {
+                let answer = lift_in(insn, state, nodes, statements);
+                tell(out, answer, next, at);
                 return answer;
             }
-            return 5;
+            let w = [next as u64, 0];
+            answers::lay(out, &w);
+            return answers::outcome_number(o);
         }
     }
     10

@@ -1,6 +1,6 @@
 use borrow.Author.Needs.{needs}
-use Rattle.export.proofs.words.effect_fields.Statement.{statement}
-use Rattle.export.proofs.words.effect_fields.Tie as tie
+use Rattle.export.proofs.answers.effect_fields.Statement.{statement}
+use Rattle.export.proofs.answers.effect_fields.Tie as tie
 
 enum-known-a : tie.Need-enum-known-a
 enum-known-a c = search needs

@@ -1,6 +1,6 @@
 use borrow.Author.Needs.{needs}
-use Rattle.export.proofs.words.arith_row.Statement.{statement}
-use Rattle.export.proofs.words.arith_row.Tie as tie
+use Rattle.export.proofs.answers.arith_row.Statement.{statement}
+use Rattle.export.proofs.answers.arith_row.Tie as tie
 
 arith-requires : tie.Need-arith-requires
 arith-requires c κs = search needs

@@ -1,0 +1,50 @@
+use borrow.Author.Tests.{le-leb, lt-leb}
+use Rattle.export.specs.Flat.{laid}
+use Rattle.export.proofs.Calls.{wrote, quiet}
+use borrow.Author.Needs.{needs}
+use Rattle.export.proofs.values.x87_evaluate.Statement.{statement}
+use Rattle.export.proofs.values.x87_evaluate.Tie as tie
+
+evaluate-requires : tie.Need-evaluate-requires
+evaluate-requires c κs = search needs
+
+outcome-node-requires : tie.Need-outcome-node-requires
+outcome-node-requires c κs = search needs
+
+slice-write-out : tie.Need-slice-write-out
+slice-write-out c = search needs
+
+outcome-number-requires : tie.Need-outcome-number-requires
+outcome-number-requires c κs = search needs
+
+same-length : tie.Need-same-length
+same-length c = search needs
+
+same-length-2 : tie.Need-same-length-2
+same-length-2 c = search needs
+
+returns : tie.Need-returns
+unfolding laid
+returns c =
+    let e = c .before .before .before .before .evaluate .ensures in
+    let h = le-leb _ _ (c .before .before .before .before .before .before .if1 .taken) in
+    record {
+      told = wrote _ _ _ _ _ _ h (rw (e .0) at (c .outcome-number .ensures)) (rw (← e .0, ← c .before .outcome-node .ensures));
+      column = rw (h, ← e .0) (e .1);
+    }
+
+returns-2 : tie.Need-returns-2
+returns-2 c = let h = lt-leb _ _ (c .if1 .left) in record { told = quiet _ _ _ _ h; column = rw h }
+
+pub x87-evaluate-spec : {M : Type 1} → statement M
+x87-evaluate-spec =
+    tie.close
+    (tie.spec
+    evaluate-requires
+    outcome-node-requires
+    slice-write-out
+    outcome-number-requires
+    same-length
+    same-length-2
+    returns
+    returns-2)

@@ -1,0 +1,82 @@
+use mathlib.Core.Path.{sym, _∙_}
+use Rattle.export.proofs.Lifting.{steps-on, stops, few-told, few-state}
+use borrow.Author.Needs.{needs}
+use Rattle.export.proofs.x87_lift_record.Statement.{statement}
+use Rattle.export.proofs.x87_lift_record.Tie as tie
+
+read-record-requires : tie.Need-read-record-requires
+read-record-requires c κs = search needs
+
+place-requires : tie.Need-place-requires
+place-requires c κs = search needs
+
+is-record-requires : tie.Need-is-record-requires
+is-record-requires c κs = search needs
+
+lift-in-requires : tie.Need-lift-in-requires
+lift-in-requires c κs = search needs
+
+tell-requires : tie.Need-tell-requires
+tell-requires c κs = search needs
+
+same-length : tie.Need-same-length
+same-length c = search needs
+
+same-length-2 : tie.Need-same-length-2
+same-length-2 c = search needs
+
+same-length-3 : tie.Need-same-length-3
+same-length-3 c = search needs
+
+same-length-4 : tie.Need-same-length-4
+same-length-4 c = search needs
+
+returns : tie.Need-returns
+returns c =
+    let t = c .before .before .before .before .before .before .before .before .before .before .before .before .before .before .before .before .before .before .read-record .ensures in
+    rw (← t) (steps-on _ _ _ _ _ _ (c .before .before .before .before .before .before .before .before .before .before .before .before .before .before .before .before .before .before .before .before .if1 .taken) (c .before .before .before .before .before .before .before .before .before .before .before .before .before .before .before .before .before .before .before .if2 .taken) _ _ _ _ _ (sym (c .before .before .before .before .before .before .before .before .before .before .before .before .before .before .before .is-record .ensures) ∙ c .before .before .before .before .before .before .before .before .before .before .before .before .before .before .if3 .taken) (c .before .before .before .before .before .before .before .before .before .before .lift-in .ensures) (rw (← c .before .before .before .before .before .before .before .before .before .before .before .before .before .before .before .before .place .ensures) (c .before .before .tell .ensures)))
+
+slice-aggregate-lay : tie.Need-slice-aggregate-lay
+slice-aggregate-lay c = search needs
+
+lay-requires : tie.Need-lay-requires
+lay-requires c κs = search needs
+
+outcome-number-requires : tie.Need-outcome-number-requires
+outcome-number-requires c κs = search needs
+
+same-length-5 : tie.Need-same-length-5
+same-length-5 c = search needs
+
+returns-2 : tie.Need-returns-2
+returns-2 c =
+    let t = c .before .before .before .before .before .before .before .before .before .before .read-record .ensures in
+    rw (← t) (stops _ _ _ _ _ _ (c .before .before .before .before .before .before .before .before .before .before .before .before .if1 .taken) (c .before .before .before .before .before .before .before .before .before .before .before .if2 .taken) _ _ (sym (c .before .before .before .before .before .before .before .is-record .ensures) ∙ c .before .before .before .before .before .before .if3 .left) (c .outcome-number .ensures) (rw (← c .before .before .before .before .before .before .before .before .place .ensures) (c .before .before .before .lay .ensures)))
+
+returns-3 : tie.Need-returns-3
+returns-3 c = few-told _ _ _ _ _ _ (c .before .if1 .taken) (c .if2 .left)
+
+returns-4 : tie.Need-returns-4
+returns-4 c = few-state _ _ _ _ _ _ (c .if1 .left)
+
+pub x87-lift-record-spec : {M : Type 1} → statement M
+x87-lift-record-spec =
+    tie.close
+    (tie.spec
+    read-record-requires
+    place-requires
+    is-record-requires
+    lift-in-requires
+    tell-requires
+    same-length
+    same-length-2
+    same-length-3
+    same-length-4
+    returns
+    slice-aggregate-lay
+    lay-requires
+    outcome-number-requires
+    same-length-5
+    returns-2
+    returns-3
+    returns-4)
