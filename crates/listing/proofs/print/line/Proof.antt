@@ -1,0 +1,25 @@
+use native.Mathlib.Omega.{arith}
+use Rattle.listing.specs.Text.{line}
+use Rattle.listing.proofs.Writing.{then, after-most, numbers-most}
+use borrow.Author.Needs.{needs}
+use Rattle.listing.proofs.print.line.Statement.{statement}
+use Rattle.listing.proofs.print.line.Tie as tie
+
+put-requires : tie.Need-put-requires
+put-requires c κs = search needs
+
+numbers-requires : tie.Need-numbers-requires
+numbers-requires c κs = search needs
+
+put-requires-2 : tie.Need-put-requires-2
+put-requires-2 c κs = omega (arith, after-most (c .before .before .before .numbers .ensures) (numbers-most _), c .before .before .before .before .before .before .before .put .ensures .place)
+
+same-length : tie.Need-same-length
+same-length c = search needs
+
+returns : tie.Need-returns
+unfolding line
+returns c = then (c .before .before .before .before .before .before .before .before .before .before .put .ensures) (then (c .before .before .before .before .before .before .numbers .ensures) (c .before .before .put2 .ensures))
+
+pub line-spec : {M : Type 1} → statement M
+line-spec = tie.close (tie.spec put-requires numbers-requires put-requires-2 same-length returns)

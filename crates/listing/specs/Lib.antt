@@ -1,0 +1,4 @@
+pub mod Run
+pub mod Text
+pub mod Listing
+pub mod Enough
