@@ -3,27 +3,40 @@
 
 use std::io::Write as _;
 
+pub mod checks;
 pub mod classify;
+pub mod damage;
 pub mod expect;
+pub mod formulas;
+pub mod images;
 pub mod inputs;
 pub mod instructions;
 #[cfg(not(no_oracle))]
 pub mod lift;
 pub mod names;
 pub mod operands;
+pub mod patterns;
+pub mod processor;
+pub mod record_lifts;
 pub mod records;
 pub mod report;
 pub mod rng;
 pub mod sample;
+pub mod sample_formulas;
 #[cfg(not(no_oracle))]
 pub mod sample_lifts;
 pub mod sequences;
+pub mod sexpr;
+pub mod smtlib;
+pub mod solver;
 #[cfg(not(no_oracle))]
 pub mod steps;
 pub mod stored;
+pub mod stored_formulas;
 pub mod subject;
 #[cfg(not(no_oracle))]
 pub mod trees;
+pub mod values;
 pub mod wellformed;
 
 #[cfg(not(no_oracle))]

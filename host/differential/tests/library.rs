@@ -1,9 +1,14 @@
-//! The static library against the Rust and the plain reader, in a smaller
-//! fixed part of the full runs. Fails where the library is not built.
+//! The static library against the Rust, document 01 said plainly, the
+//! solvers and the processor, in a smaller fixed part of the full runs.
+//! Fails where the library is not built.
 
 use differential::report::Report;
+use differential::solver::Solver;
 use differential::subject::Library;
-use differential::{NO_ORACLE, classify, left_out, lift, oracle, records, stored};
+use differential::{
+    NO_ORACLE, checks, classify, images, left_out, lift, oracle, record_lifts, records, stored,
+    values,
+};
 
 fn equal(report: &Report) {
     println!("{report}");
@@ -40,6 +45,97 @@ fn lift_answers_as_the_rust() {
         return;
     }
     equal(&lift::run(&Library, 2_000, 2));
+}
+
+#[test]
+fn a_record_is_lifted_as_by_two_calls() {
+    assert!(sleetgate_sys::at_hand(), "{}", sleetgate_sys::MISSING);
+    equal(&record_lifts::run(&Library, 100_000, 2));
+}
+
+#[test]
+fn sorts_are_checked_as_document_01_says() {
+    assert!(sleetgate_sys::at_hand(), "{}", sleetgate_sys::MISSING);
+    let report = checks::run(&Library, 50_000, 2);
+    equal(&report);
+    for (name, count) in report.notes {
+        assert!(count > 100, "{name}: {count}");
+    }
+}
+
+#[test]
+fn images_are_the_processors() {
+    assert!(sleetgate_sys::at_hand(), "{}", sleetgate_sys::MISSING);
+    let report = images::run(&Library, 300_000, 2);
+    equal(&report);
+    for (name, count) in report.notes {
+        assert!(count > 1_000, "{name}: {count}");
+    }
+}
+
+/// The values of some lists by a solver, where it is at hand.
+fn values_by(solver: Solver) {
+    assert!(sleetgate_sys::at_hand(), "{}", sleetgate_sys::MISSING);
+    if !solver.at_hand() {
+        left_out(&solver.missing());
+        return;
+    }
+    let report = values::run(&Library, solver, 500, 2).expect("the solver runs");
+    equal(&report);
+    for (name, count) in report.notes {
+        assert!(count > 100, "{name}: {count}");
+    }
+}
+
+#[test]
+fn values_are_those_of_z3() {
+    values_by(Solver::Z3);
+}
+
+#[test]
+fn values_are_those_of_cvc5() {
+    values_by(Solver::Cvc5);
+}
+
+#[test]
+fn the_binding_of_formulas_tests_lengths_first() {
+    let (mut out, mut image) = ([7; 16], [7; 10]);
+    assert_eq!(sleetgate_sys::image_read(&[0; 9], 0, 0, &mut out), 10);
+    assert_eq!(sleetgate_sys::image_read(&[0; 10], 0, 0, &mut out[..1]), 10);
+    assert_eq!(sleetgate_sys::image_write(&mut image[1..], 0, 0), 10);
+    assert_eq!(sleetgate_sys::check(&[], 0, &mut []), 10);
+    assert_eq!(sleetgate_sys::evaluate(&[], 0, &[], &mut out, &mut []), 10);
+    let (state, told) = out.split_at_mut(13);
+    assert_eq!(
+        sleetgate_sys::lift_record(&[], 0, &mut state[1..], &mut [], &mut [], told),
+        10
+    );
+    assert_eq!(
+        sleetgate_sys::lift_record(&[], 0, state, &mut [], &mut [], &mut told[..1]),
+        10
+    );
+    assert_eq!((out, image), ([7; 16], [7; 10]));
+}
+
+#[test]
+fn the_binding_calls_the_library() {
+    assert!(sleetgate_sys::at_hand(), "{}", sleetgate_sys::MISSING);
+    let (mut out, mut image) = ([7; 16], [7; 11]);
+    let one = [0, 0, 0, 0, 0, 0, 0, 0x80, 0xff, 0x3f];
+    assert_eq!(sleetgate_sys::image_read(&one, 0, 0, &mut out), 0);
+    assert_eq!(out[..3], [0x8000_0000_0000_0000, 0x1fff, 7]);
+    assert_eq!(sleetgate_sys::image_write(&mut image, out[0], out[1]), 0);
+    assert_eq!((&image[..10], image[10]), (one.as_slice(), 7));
+    let nodes = [6, 5, 0, 3, 14, 0, 2, 1, 9, 0, 1, 0];
+    assert_eq!(sleetgate_sys::check(&nodes, 3, &mut out), 8);
+    assert_eq!(out[..2], [2, 0x1fff]);
+    let mut column = [7; 5];
+    let number = sleetgate_sys::evaluate(&nodes, 2, &[0; 4], &mut column, &mut out);
+    assert_eq!((number, out[0], column), (0, 0, [5, 0, 2, 0, 7]));
+    let mut state = [0; 13];
+    let number =
+        sleetgate_sys::lift_record(&[0x87, 0x45], 0, &mut state, &mut [], &mut [], &mut out);
+    assert_eq!((number, &out[..2], state), (0, [2, 0].as_slice(), [0; 13]));
 }
 
 #[test]

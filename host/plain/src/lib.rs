@@ -1,11 +1,16 @@
 //! Document 01 said plainly in Rust: what an instruction is and how it
 //! lies in bytes, which instructions are refused, how records are read,
-//! and which states are valid. Written for being read, not for speed.
+//! which states are valid, which nodes have a sort, which given values
+//! fit, and what an 80-bit image holds. Written for being read, not for
+//! speed.
 
 mod flat;
+pub mod image;
 mod reader;
 mod refusals;
+pub mod sorts;
 pub mod state;
+pub mod values;
 
 pub use flat::{FLAT, Instruction, OPERANDS, Operand, TEXT, Text};
 pub use reader::{Outcome, read, record};
@@ -25,6 +30,8 @@ pub const BAD_SHAPE: u32 = 4;
 pub const BAD_STATE: u32 = 5;
 pub const NO_NODES: u32 = 6;
 pub const NO_STATEMENTS: u32 = 7;
+pub const NO_SORT: u32 = 8;
+pub const TOO_WIDE: u32 = 9;
 pub const TOO_SHORT: u32 = 10;
 pub const WRONG_MARK: u32 = 11;
 pub const ENDS_EARLY: u32 = 12;

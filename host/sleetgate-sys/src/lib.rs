@@ -16,6 +16,12 @@ pub const EFFECT: usize = 7;
 pub const READ: usize = 2;
 /// Words of a state.
 pub const STATE: usize = 13;
+/// Bytes of an 80-bit image.
+pub const IMAGE: usize = 10;
+/// Words of a pattern, and of a value in a column, low first.
+pub const VALUE: usize = 2;
+/// Words that name a node.
+pub const NAMED: usize = 1;
 
 /// The answer where a lent slice is too short.
 pub const TOO_SHORT: u32 = 10;
@@ -75,6 +81,68 @@ pub fn lift(flat: &[u8], state: &mut [u64], nodes: &mut [u64], statements: &mut 
         return TOO_SHORT;
     }
     untested::lift(flat, state, nodes, statements)
+}
+
+/// Read one record of `input` at `at` and lift it, as [`read_record`] and
+/// [`lift`] do. The first two words of `out` become the next place and 1,
+/// or the offending place (the record's own for a refusal of the lifter)
+/// and 0; at the end mark nothing is lifted, and they become the place
+/// after it and 0.
+pub fn lift_record(
+    input: &[u8],
+    at: usize,
+    state: &mut [u64],
+    nodes: &mut [u64],
+    statements: &mut [u64],
+    out: &mut [u64],
+) -> u32 {
+    if state.len() < STATE || out.len() < READ {
+        return TOO_SHORT;
+    }
+    untested::lift_record(input, at, state, nodes, statements, out)
+}
+
+/// Read an image of ten bytes. The first two words of `out` become its
+/// pattern, or the free pattern where it has no number.
+pub fn image_read(image: &[u8], low: u64, high: u64, out: &mut [u64]) -> u32 {
+    if image.len() < IMAGE || out.len() < VALUE {
+        return TOO_SHORT;
+    }
+    untested::image_read(image, low, high, out)
+}
+
+/// Write the image of a pattern. The first ten bytes of `image` become
+/// it.
+pub fn image_write(image: &mut [u8], low: u64, high: u64) -> u32 {
+    if image.len() < IMAGE {
+        return TOO_SHORT;
+    }
+    untested::image_write(image, low, high)
+}
+
+/// Check the sorts of the first `count` nodes. The first word of `out`
+/// becomes the first node without a sort, or 0.
+pub fn check(nodes: &[u64], count: usize, out: &mut [u64]) -> u32 {
+    if out.len() < NAMED {
+        return TOO_SHORT;
+    }
+    untested::check(nodes, count, out)
+}
+
+/// Evaluate the first `count` nodes. The first two words of `column` for
+/// each of them become the values; the first word of `out` becomes the
+/// node that a refusal names, or 0.
+pub fn evaluate(
+    nodes: &[u64],
+    count: usize,
+    given: &[u64],
+    column: &mut [u64],
+    out: &mut [u64],
+) -> u32 {
+    if out.len() < NAMED {
+        return TOO_SHORT;
+    }
+    untested::evaluate(nodes, count, given, column, out)
 }
 
 #[cfg(not(no_library))]

@@ -1,21 +1,31 @@
 //! `differential CALL [SIZE] [SEED]`: compare the static library with the
-//! Rust, or for `records` with the plain reader. Ends with status 1 where
-//! anything differs.
+//! Rust; for `records` and `checks` with document 01 said plainly, for
+//! `record-lifts` with the two calls that it stands for, for `z3` and
+//! `cvc5` with that solver, for `images` with the processor. Ends with
+//! status 1 where anything differs.
 
 use std::env;
 use std::process::ExitCode;
 use std::time::Instant;
 
 use differential::report::Report;
+use differential::solver::Solver;
 use differential::subject::Library;
-use differential::{NO_ORACLE, classify, lift, oracle, records};
+use differential::{
+    NO_ORACLE, checks, classify, images, lift, oracle, record_lifts, records, values,
+};
 
-const USAGE: &str = "differential classify|records|lift [SIZE] [SEED]";
+const USAGE: &str =
+    "differential classify|records|lift|record-lifts|checks|z3|cvc5|images [SIZE] [SEED]";
 
 /// Sizes of the full runs.
 const CLASSIFY: u64 = 3_500_000;
 const RECORDS: u64 = 1_500_000;
 const SEQUENCES: u64 = 200_000;
+const RECORD_LIFTS: u64 = 1_500_000;
+const CHECKS: u64 = 2_000_000;
+const LISTS: u64 = 40_000;
+const IMAGES: u64 = 5_000_000;
 
 fn main() -> ExitCode {
     let words: Vec<String> = env::args().skip(1).collect();
@@ -34,6 +44,15 @@ fn main() -> ExitCode {
         "records" => Some(records::run(&Library, size.unwrap_or(RECORDS), seed)),
         "lift" if !sleetgate_sys::has_lift() => return failure(sleetgate_sys::MISSING_LIFT),
         "lift" => with_oracle(|| lift::run(&Library, size.unwrap_or(SEQUENCES), seed)),
+        "record-lifts" => Some(record_lifts::run(
+            &Library,
+            size.unwrap_or(RECORD_LIFTS),
+            seed,
+        )),
+        "checks" => Some(checks::run(&Library, size.unwrap_or(CHECKS), seed)),
+        "images" => Some(images::run(&Library, size.unwrap_or(IMAGES), seed)),
+        "z3" => with_solver(Solver::Z3, size, seed),
+        "cvc5" => with_solver(Solver::Cvc5, size, seed),
         _ => return usage(),
     };
     let Some(report) = report else {
@@ -60,6 +79,17 @@ fn with_oracle(run: impl FnOnce() -> Report) -> Option<Report> {
     }
     println!("{NO_ORACLE}");
     None
+}
+
+/// The values by a solver: where it cannot be run, only a line that says
+/// so.
+fn with_solver(solver: Solver, size: Option<u64>, seed: u64) -> Option<Report> {
+    if !solver.at_hand() {
+        println!("{}", solver.missing());
+        return None;
+    }
+    let report = values::run(&Library, solver, size.unwrap_or(LISTS), seed);
+    Some(report.unwrap_or_else(|e| panic!("{}: {e}", solver.name())))
 }
 
 /// The number that stands as the word `at`: none where there is no such

@@ -1,16 +1,20 @@
 //! `sample [FOLDER]`: write the stored samples anew, by default where the
-//! replay program has them.
+//! replay program has them. A file whose answers cannot be had here is
+//! left as it is, with a line that says so. Some of the lists of nodes
+//! are lifted by the static library.
 
+use std::io;
+use std::path::PathBuf;
 use std::process::ExitCode;
 
-#[cfg(no_oracle)]
-fn main() -> ExitCode {
-    eprintln!("{}", differential::NO_ORACLE);
-    ExitCode::FAILURE
-}
+use differential::solver::Solver;
+use differential::{left_out, sample, sample_formulas, stored};
 
-#[cfg(not(no_oracle))]
 fn main() -> ExitCode {
+    if !sleetgate_sys::at_hand() {
+        eprintln!("{}", sleetgate_sys::MISSING);
+        return ExitCode::FAILURE;
+    }
     match write() {
         Ok(()) => ExitCode::SUCCESS,
         Err(e) => {
@@ -20,21 +24,16 @@ fn main() -> ExitCode {
     }
 }
 
-#[cfg(not(no_oracle))]
-fn write() -> std::io::Result<()> {
-    use differential::{left_out, sample, sample_lifts, stored};
-    use std::path::PathBuf;
-
+fn write() -> io::Result<()> {
     let given = std::env::args().nth(1).map(PathBuf::from);
-    let mut files = vec![
-        ("instructions.bin", sample::instructions()),
-        ("records.bin", sample::records()),
-    ];
-    // A stored lift that the library cannot answer would fail the tests.
-    if sleetgate_sys::has_lift() {
-        files.push(("lifts.bin", sample_lifts::lifts()));
+    let mut files = of_the_rust();
+    files.push(("records.bin", sample::records()));
+    files.push(("checks.bin", sample_formulas::checks()));
+    files.push(("images.bin", sample_formulas::images()));
+    if Solver::Z3.at_hand() {
+        files.push(("values.bin", sample_formulas::values()?));
     } else {
-        left_out("lifts.bin, until the library exports x87_lift");
+        left_out(&format!("values.bin: {}", Solver::Z3.missing()));
     }
     for (name, content) in files {
         let path = match &given {
@@ -45,4 +44,23 @@ fn write() -> std::io::Result<()> {
         println!("{name}: {} bytes", content.len());
     }
     Ok(())
+}
+
+/// The files whose answers are the Rust's.
+#[cfg(not(no_oracle))]
+fn of_the_rust() -> Vec<(&'static str, Vec<u8>)> {
+    let mut files = vec![("instructions.bin", sample::instructions())];
+    // A stored lift that the library cannot answer would fail the tests.
+    if sleetgate_sys::has_lift() {
+        files.push(("lifts.bin", differential::sample_lifts::lifts()));
+    } else {
+        left_out("lifts.bin, until the library exports x87_lift");
+    }
+    files
+}
+
+#[cfg(no_oracle)]
+fn of_the_rust() -> Vec<(&'static str, Vec<u8>)> {
+    left_out(differential::NO_ORACLE);
+    Vec::new()
 }
