@@ -1,5 +1,2 @@
-pub mod Site
-pub mod Memory
-pub mod Forms
 pub mod Apply
 pub mod Lift

@@ -12,9 +12,10 @@ use Rattle.forms.specs.Classify.{classifyOf}
 use Rattle.forms.specs.declared.Instruction.{Instruction}
 use Rattle.forms.specs.declared.Classified.{Classified}
 use Rattle.forms.specs.declared.Classified.the-variants.{Modelled, Declined, BadText, BadOperands}
-use Rattle.lifter.specs.Site.{siteOf}
-use Rattle.lifter.specs.Apply.{applyX87Of, declineX87Of}
-use Rattle.lifter.specs.declared.Site.{Site}
+use Rattle.memory.specs.Site.{siteOf}
+use Rattle.lifter.specs.Apply.{applyX87Of}
+use Rattle.moves.specs.Pushes.{declineX87Of}
+use Rattle.memory.specs.declared.Site.{Site}
 
 -- What an instruction comes to over lists of any length: 0 or 2, 1, 3, 4
 unfoldable pub loweredOf : State → Classified → Site → Built

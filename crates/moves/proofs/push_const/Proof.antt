@@ -1,0 +1,28 @@
+use Rattle.lists.proofs.Sequence.{both, nodes, statements}
+use Rattle.moves.specs.Pushes.{pushConstOf}
+use borrow.Author.Needs.{needs}
+use Rattle.moves.proofs.push_const.Statement.{statement}
+use Rattle.moves.proofs.push_const.Tie as tie
+
+wide-konst-requires : tie.Need-wide-konst-requires
+wide-konst-requires c κs = search needs
+
+land-requires : tie.Need-land-requires
+land-requires c κs = search needs
+
+same-length : tie.Need-same-length
+same-length c = search needs
+
+same-length-2 : tie.Need-same-length-2
+same-length-2 c = search needs
+
+returns : tie.Need-returns
+unfolding pushConstOf
+returns c =
+    let c2 = c .before .before in
+    let c1 = c2 .before .before .before .before in
+    both _ (nodes (c1 .wide-konst .ensures)) (statements (c2 .land .ensures))
+
+pub push-const-spec : {M : Type 1} → statement M
+push-const-spec =
+    tie.close (tie.spec wide-konst-requires land-requires same-length same-length-2 returns)
