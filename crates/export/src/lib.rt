@@ -2,7 +2,7 @@
 mod answers;
 mod flat;
 mod state;
-mod values;
+pub mod values;
 
 ghost use mathlib.Core.Path.{_≡_};
 ghost use Prim.Native.Nat.{_≤_};

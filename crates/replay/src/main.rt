@@ -9,6 +9,9 @@ enum File {
     Instructions,
     Records,
     Lifts,
+    Checks,
+    Values,
+    Images,
 }
 
 // What a turn found: a row whose answers are the calls' own, another one, or no further row.
@@ -43,6 +46,27 @@ fn four(s: &[u8], at: usize) -> u64
     let low = two(s, at);
     let high = two(s, at + 2);
     (low + 65536 * high) as u64
+}
+
+// The word that eight bytes at a place make, low byte first.
+fn eight(s: &[u8], at: usize) -> u64
+    requires { ⌜ at + 8 ≤ length (now s) ⌝ }
+{
+    let low = four(s, at);
+    let high = four(s, at + 4);
+    low + 4294967296 * high
+}
+
+// The words that bytes make, eight for each, as many as there are of both.
+fn load(w: &mut [u64], s: &[u8]) {
+    let mut i = 0;
+    while i < w.len() {
+        if s.len() / 8 <= i {
+            return;
+        }
+        w[i] = eight(s, 8 * i);
+        i += 1;
+    }
 }
 
 // Whether bytes are a word's own, low byte first.
@@ -208,6 +232,95 @@ fn lift_equal(head: &[u8], tail: &[u8]) -> bool
     false
 }
 
+// A row's head: answer, first bad node, count and number of words (two bytes each); then the words.
+fn check_equal(head: &[u8], tail: &[u8]) -> bool
+    requires { ⌜ length (now head) ≡ 288 ⌝ }
+{
+    let count = two(head, 3);
+    let size = two(head, 5);
+    if 64 < size {
+        return false;
+    }
+    let mut nodes = [0u64; 64];
+    let mut out = [0u64; 1];
+    load(&mut nodes, tail);
+    let answer = export::values::x87_check(&nodes[0..size], count, &mut out);
+    if answer as u64 == wide(head[0]) {
+        return out[0] == two(head, 1) as u64;
+    }
+    false
+}
+
+// Whether an evaluation gives a row's answer and node, and leaves these bytes' words in the column.
+fn column_equal(head: &[u8], nodes: &[u64], given: &[u64], column: &mut [u64], after: &[u8]) -> bool
+    requires { ⌜ length (now head) ≡ 288 ⌝ }
+{
+    let mut out = [0u64; 1];
+    let answer = export::values::x87_evaluate(nodes, two(head, 3), given, column, &mut out);
+    if answer as u64 == wide(head[0]) {
+        if out[0] == two(head, 1) as u64 {
+            return words_equal(column, after, 8);
+        }
+    }
+    false
+}
+
+// A row's head: answer, node, count, and how many words the list, the given and the lent column have; then those words.
+fn value_equal(head: &[u8], tail: &[u8]) -> bool
+    requires { ⌜ length (now head) ≡ 288 ⌝ }
+{
+    let first = two(head, 5);
+    let second = two(head, 7);
+    let third = two(head, 9);
+    if 128 < first {
+        return false;
+    }
+    if 128 < second {
+        return false;
+    }
+    if 128 < third {
+        return false;
+    }
+    let split = 8 * first;
+    let after = split + 8 * second;
+    if tail.len() < after {
+        return false;
+    }
+    let mut nodes = [0u64; 128];
+    let mut given = [0u64; 128];
+    let mut column = [18446744073709551615u64; 128];
+    load(&mut nodes, &tail[0..split]);
+    load(&mut given, &tail[split..after]);
+    column_equal(
+        head,
+        &nodes[0..first],
+        &given[0..second],
+        &mut column[0..third],
+        &tail[after..],
+    )
+}
+
+// A row: an image, the free pattern's two words, the answer, the pattern's two words, and the image written from it; a refused pattern is 0, and so is its image.
+fn image_equal(head: &[u8]) -> bool
+    requires { ⌜ length (now head) ≡ 288 ⌝ }
+{
+    let mut out = [0u64; 2];
+    let mut image = [0u8; 10];
+    let answer = export::values::x87_image_read(
+        &head[0..10],
+        eight(head, 10),
+        eight(head, 18),
+        &mut out,
+    );
+    export::values::x87_image_write(&mut image, out[0], out[1]);
+    if answer as u64 == wide(head[26]) {
+        if words_equal(&out, &head[27..43], 8) {
+            return check::same(&image, &head[43..53]);
+        }
+    }
+    false
+}
+
 // Whether a row's answers are the calls' own.
 fn row_equal(file: File, head: &[u8], tail: &[u8]) -> bool
     requires { ⌜ length (now head) ≡ 288 ⌝ }
@@ -216,6 +329,9 @@ fn row_equal(file: File, head: &[u8], tail: &[u8]) -> bool
         File::Instructions => instruction_equal(head),
         File::Records => record_equal(head, tail),
         File::Lifts => lift_equal(head, tail),
+        File::Checks => check_equal(head, tail),
+        File::Values => value_equal(head, tail),
+        File::Images => image_equal(head),
     }
 }
 
@@ -227,7 +343,24 @@ fn head_size(file: File) -> usize
         File::Instructions => 249,
         File::Records => 185,
         File::Lifts => 288,
+        File::Checks => 7,
+        File::Values => 11,
+        File::Images => 53,
     }
+}
+
+// How many bytes so many words have; no stored row has more than 1,024.
+fn words_size(a: usize, b: usize, c: usize) -> usize
+    ensures { λ r. ⌜ r < 65536 ⌝ }
+{
+    if a <= 1024 {
+        if b <= 1024 {
+            if c <= 1024 {
+                return 8 * (a + b + c);
+            }
+        }
+    }
+    0
 }
 
 // How many bytes follow a row's head.
@@ -238,6 +371,9 @@ fn tail_size(file: File, head: &[u8; 288]) -> usize
         File::Instructions => 0,
         File::Records => two(head, 0),
         File::Lifts => 32 * (wide(head[286]) + wide(head[287])) as usize,
+        File::Checks => words_size(two(head, 5), 0, 0),
+        File::Values => words_size(two(head, 5), two(head, 7), two(head, 9)),
+        File::Images => 0,
     }
 }
 
@@ -298,14 +434,18 @@ fn rows(fd: i32, file: File) {
     say(n, false);
 }
 
+// All rows of one file.
+fn replay(file: File, path: &[u8], name: &[u8]) {
+    let fd = os::open_read(path);
+    io::write_all(STDOUT_FILENO, name);
+    rows(fd, file);
+}
+
 fn main() {
-    let one = os::open_read(b"instructions.bin");
-    io::write_all(STDOUT_FILENO, b"instructions ");
-    rows(one, File::Instructions);
-    let two = os::open_read(b"records.bin");
-    io::write_all(STDOUT_FILENO, b"records ");
-    rows(two, File::Records);
-    let three = os::open_read(b"lifts.bin");
-    io::write_all(STDOUT_FILENO, b"lifts ");
-    rows(three, File::Lifts);
+    replay(File::Instructions, b"instructions.bin", b"instructions ");
+    replay(File::Records, b"records.bin", b"records ");
+    replay(File::Lifts, b"lifts.bin", b"lifts ");
+    replay(File::Checks, b"checks.bin", b"checks ");
+    replay(File::Values, b"values.bin", b"values ");
+    replay(File::Images, b"images.bin", b"images ");
 }
