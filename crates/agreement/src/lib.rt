@@ -1,0 +1,1 @@
+// What joins the parts: no function of its own, only theorems in specs/.
