@@ -30,6 +30,8 @@ use Rattle.forms.specs.declared.X87Arith.{X87Arith}
 use Rattle.forms.specs.declared.X87Condition.{X87Condition}
 use Rattle.forms.specs.declared.UnaryOp.{UnaryOp}
 use Rattle.records.specs.Format.{takenAt}
+use Rattle.records.specs.Numbers.{refusalOf}
+use Rattle.records.specs.declared.Refusal.{Refusal}
 use Rattle.records.specs.declared.Cursor.{Cursor}
 use Rattle.records.specs.declared.Taken.{Taken}
 use Rattle.lists.specs.Rows.{roomOf}
@@ -206,6 +208,9 @@ pub forms·family-text : (t : Text) → Determined (λ (r : Family). r ≡ famil
 forms·family-text t = one
 
 -- records
+
+pub records·refusal-number : (r : Refusal) → Determined (λ (n : ℕ). n ≡ refusalOf r)
+records·refusal-number r = one
 
 pub records·read-record : (s : List ℕ) (c : Cursor) → Determined (λ (r : Taken). r ≡ takenAt s (c .at))
 records·read-record s c = one

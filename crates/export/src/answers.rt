@@ -17,7 +17,6 @@ use forms::UnaryOp;
 use forms::X87Arith;
 use forms::X87Condition;
 use records::Outcome;
-use records::Refusal;
 
 pub(crate) fn bit(b: bool) -> u64
     ensures { λ r. ⌜ r ≡ forms.bit b ⌝ }
@@ -236,17 +235,6 @@ pub(crate) fn effect_fields(a: Affected) -> [u64; 7]
     }
 }
 
-fn refusal(r: Refusal) -> u32
-    ensures { λ n. ⌜ n ≡ records.refusalOf r ⌝ }
-{
-    match r {
-        Refusal::BadText => 3,
-        Refusal::BadOperand => 4,
-        Refusal::BadMark => 11,
-        Refusal::Short => 12,
-    }
-}
-
 // An outcome's number, its place, and whether a record was read.
 pub(crate) fn outcome_number(o: Outcome) -> u32
     ensures { λ r. ⌜ r ≡ records.numberOf o ⌝ }
@@ -254,7 +242,7 @@ pub(crate) fn outcome_number(o: Outcome) -> u32
     match o {
         Outcome::Record(_) => 0,
         Outcome::End(_) => 0,
-        Outcome::Refused(r, _) => refusal(r),
+        Outcome::Refused(r, _) => records::refusal_number(r),
     }
 }
 

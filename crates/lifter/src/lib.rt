@@ -18,52 +18,38 @@ const MOST_NODES: u32 = 46;
 
 const MOST_STATEMENTS: u32 = 5;
 
-fn apply_x87(nodes: &mut [u64], statements: &mut [u64], s: State, form: Form, site: Site) -> Done
-    ensures { λ r. ⌜ Does (applyX87Of s form site) (r .state) (r .answer) (now (nodes .entry)) (now (nodes .exit)) (now (statements .entry)) (now (statements .exit)) ⌝ }
+fn apply_x87(ns: &mut [u64], ss: &mut [u64], s: State, form: Form, site: Site) -> Done
+    ensures { λ r. ⌜ Does (applyX87Of s form site) (r .state) (r .answer) (now (ns .entry)) (now (ns .exit)) (now (ss .entry)) (now (ss .exit)) ⌝ }
 {
     match form {
-        Form::PushConst { low, high } => moves::push_const(nodes, statements, s, site, low, high),
-        Form::PushMemory { width, format } => moves::push_memory(
-            nodes,
-            statements,
-            s,
-            site,
-            width,
-            format,
-        ),
-        Form::PushSlot(index) => moves::push_slot(nodes, statements, s, site, index),
+        Form::PushConst { low, high } => moves::push_const(ns, ss, s, site, low, high),
+        Form::PushMemory { width, format } => moves::push_memory(ns, ss, s, site, width, format),
+        Form::PushSlot(index) => moves::push_slot(ns, ss, s, site, index),
         Form::StoreMemory {
             width,
             format,
             pop,
             rounding,
-        } => memory::x87_store_memory(nodes, statements, s, site, width, format, pop, rounding),
-        Form::StoreSlot { index, pop } => moves::store_slot(nodes, s, index, pop),
+        } => memory::x87_store_memory(ns, ss, s, site, width, format, pop, rounding),
+        Form::StoreSlot { index, pop } => moves::store_slot(ns, s, index, pop),
         Form::Arith {
             op,
             dst,
             src,
             reversed,
             pop,
-        } => moves::x87_arith(nodes, statements, s, site, op, dst, src, reversed, pop),
-        Form::CompareStatus { src, pops } => moves::x87_compare_status(
-            nodes,
-            statements,
-            s,
-            site,
-            src,
-            pops,
-        ),
-        Form::CompareFlags { src, pop } => moves::x87_compare_flags(nodes, statements, s, src, pop),
+        } => moves::x87_arith(ns, ss, s, site, op, dst, src, reversed, pop),
+        Form::CompareStatus { src, pops } => moves::x87_compare_status(ns, ss, s, site, src, pops),
+        Form::CompareFlags { src, pop } => moves::x87_compare_flags(ns, ss, s, src, pop),
         Form::ConditionalMove { src, condition } => moves::x87_conditional_move(
-            nodes,
+            ns,
             s,
             src,
             condition,
         ),
-        Form::StoreStatus => memory::x87_store_status(nodes, statements, s, site),
-        Form::Exchange(index) => moves::exchange(nodes, s, index),
-        Form::Unary(op) => moves::x87_unary(nodes, s, op),
+        Form::StoreStatus => memory::x87_store_status(ns, ss, s, site),
+        Form::Exchange(index) => moves::exchange(ns, s, index),
+        Form::Unary(op) => moves::x87_unary(ns, s, op),
     }
 }
 

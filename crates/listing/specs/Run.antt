@@ -22,9 +22,12 @@ pub record Ran : Type 0 where
   pub nodes : List ℕ
   pub statements : List ℕ
 
+abbrev pub stoppedAt : State → ℕ → ℕ → Stop
+stoppedAt s number place = record { state = s; number = number; place = place }
+
 -- a run that ended, with a refusal's number and place
 abbrev pub ended : State → List ℕ → List ℕ → ℕ → ℕ → Ran
-ended s n m number place = record { run = record { state = s; number = number; place = place }; nodes = n; statements = m }
+ended s n m number place = record { run = stoppedAt s number place; nodes = n; statements = m }
 
 -- at the end mark and at a reader's refusal the run ends; behind a record it goes on
 abbrev pub after : Outcome → State → List ℕ → List ℕ → (ℕ → Ran) → Ran

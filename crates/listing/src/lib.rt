@@ -2,13 +2,11 @@
 mod print;
 
 ghost use mathlib.Core.Path.{_≡_};
-ghost use Rattle.listing.specs.Run.{Runs, runOf};
+ghost use Rattle.listing.specs.Run.{Runs, runOf, stoppedAt};
 ghost use Rattle.listing.specs.Listing.{Lists, textOf};
-ghost use Rattle.records.specs.Numbers.{refusalOf};
 use lists::State;
 use records::Cursor;
 use records::Outcome;
-use records::Refusal;
 
 // Where a run stopped: its state, and a refusal's number and place, 0 and 0 where there is none.
 pub struct Stop {
@@ -23,14 +21,13 @@ pub enum Listed {
     Short,
 }
 
-fn refusal(r: Refusal) -> u32
-    ensures { λ n. ⌜ n ≡ refusalOf r ⌝ }
+fn stopped(state: State, number: u32, place: usize) -> Stop
+    ensures { λ r. ⌜ r ≡ stoppedAt state number place ⌝ }
 {
-    match r {
-        Refusal::BadText => 3,
-        Refusal::BadOperand => 4,
-        Refusal::BadMark => 11,
-        Refusal::Short => 12,
+    Stop {
+        state,
+        number,
+        place,
     }
 }
 
@@ -40,11 +37,7 @@ pub fn run(input: &[u8], nodes: &mut [u64], statements: &mut [u64]) -> Stop
 {
     let mut s = lists::new();
     if 16384 < input.len() {
-        return Stop {
-            state: s,
-            number: 13,
-            place: 0,
-        };
+        return stopped(s, 13, 0);
     }
     let mut at = 0;
     let mut left = input.len();
@@ -53,36 +46,20 @@ pub fn run(input: &[u8], nodes: &mut [u64], statements: &mut [u64]) -> Stop
         let insn = t.insn;
         let o = t.outcome;
         match o {
-            Outcome::End(_) => return Stop {
-                state: s,
-                number: 0,
-                place: 0,
-            },
-            Outcome::Refused(r, p) => return Stop {
-                state: s,
-                number: refusal(r),
-                place: p,
-            },
+            Outcome::End(_) => return stopped(s, 0, 0),
+            Outcome::Refused(r, p) => return stopped(s, records::refusal_number(r), p),
             Outcome::Record(c) => {
                 let done = lifter::lift(nodes, statements, s, insn);
                 s = done.state;
                 if 2 < done.answer {
-                    return Stop {
-                        state: s,
-                        number: done.answer,
-                        place: at,
-                    };
+                    return stopped(s, done.answer, at);
                 }
                 at = c.at;
                 left -= 1;
             }
         }
     }
-    Stop {
-        state: s,
-        number: 12,
-        place: input.len(),
-    }
+    stopped(s, 12, input.len())
 }
 
 // Writes the listing of a run over these lists, or nothing where it does not fit.

@@ -4,6 +4,7 @@ ghost use Prim.Native.Nat.{_^_, _<_, _≤_};
 ghost use lib.ListN.{length};
 ghost use Rattle.records.specs.Reading.{byteAt, limitedAt, eitherAt, numberAt};
 ghost use Rattle.records.specs.Format.{noText, noOperand, noInstruction, textAt, registerAt, memoryAt, operandAt, presentAt, recordAt, endAt, answer, took, takenAt};
+ghost use Rattle.records.specs.Numbers.{refusalOf};
 ghost use Rattle.records.specs.Steps.{read, on};
 use forms::Instruction;
 use forms::Operand;
@@ -20,6 +21,18 @@ pub enum Refusal {
     BadOperand,
     BadMark,
     Short,
+}
+
+// A refusal's number.
+pub fn refusal_number(r: Refusal) -> u32
+    ensures { λ n. ⌜ n ≡ refusalOf r ⌝ }
+{
+    match r {
+        Refusal::BadText => 3,
+        Refusal::BadOperand => 4,
+        Refusal::BadMark => 11,
+        Refusal::Short => 12,
+    }
 }
 
 // What stands at a place: a record or the end mark, with the next place, or a refusal with the offending place.

@@ -2,7 +2,7 @@
 ghost use mathlib.Core.Path.{_≡_};
 ghost use mathlib.Core.Bool.{_&&_};
 ghost use Prim.Native.Nat.{ℕ, _+_, _-_, _*_, _≤_};
-ghost use lib.Dec.{leb, ltb};
+ghost use lib.Dec.{leb, ltb, eqb};
 ghost use lib.ListN.{length, getD, take};
 ghost use Rattle.sorts.specs.Sorts.{when, isBits, isFloat, isStored, isWord, patternWidth, sortRow};
 ghost use Rattle.sorts.specs.Lists.{sorts, rowSort};
@@ -72,6 +72,15 @@ fn extract_sort(s: u64, hi: u64, lo: u64) -> u64
     0
 }
 
+fn concat_sort(xa: u16, xb: u16, c: u64) -> u64
+    ensures { λ r. ⌜ r ≡ when (((isBits xa && isBits xb) && leb (xa + xb) 80) && eqb c 0) (xa + xb) ⌝ }
+{
+    let sa = xa as u64;
+    let sb = xb as u64;
+    let ok = is_bits(sa) & is_bits(sb) & (sa + sb <= 80) & (c == 0);
+    only(ok, sa + sb)
+}
+
 // The sort of a node from its row and the sorts of its operands, or 0.
 pub fn sort_of(k: u64, a: u64, b: u64, c: u64, xa: u16, xb: u16, xc: u16) -> u64
     ensures { λ r. ⌜ r ≡ sortRow k a b c xa xb xc ⌝ }
@@ -94,10 +103,7 @@ pub fn sort_of(k: u64, a: u64, b: u64, c: u64, xa: u16, xb: u16, xc: u16) -> u64
         12 => only((sa == 1) & (b == 0) & (c == 0), 1),
         13 => only((sa == 1) & is_bits(sb) & (sb == sc), sc),
         14 => extract_sort(sa, b, c),
-        15 => only(
-            is_bits(sa) & is_bits(sb) & (sa + sb <= 80) & (c == 0),
-            sa + sb,
-        ),
+        15 => concat_sort(xa, xb, c),
         16 => only(is_float(sa) & (sa == sb) & (c <= 1), sb),
         17 => only(is_float(sa) & (sa == sb) & (c <= 1), sb),
         18 => only(is_float(sa) & (sa == sb) & (c <= 1), sb),

@@ -70,74 +70,62 @@ only-requires-13 c κs = search needs
 extract-sort-requires : tie.Need-extract-sort-requires
 extract-sort-requires c κs = search needs
 
-is-bits-requires-6 : tie.Need-is-bits-requires-6
-is-bits-requires-6 c κs = search needs
-
-is-bits-requires-7 : tie.Need-is-bits-requires-7
-is-bits-requires-7 c κs = search needs
-
-add-only : tie.Need-add-only
-add-only c = search needs
-
-add-only-2 : tie.Need-add-only-2
-add-only-2 c = search needs
-
-only-requires-14 : tie.Need-only-requires-14
-only-requires-14 c κs = search needs
+concat-sort-requires : tie.Need-concat-sort-requires
+concat-sort-requires c κs = search needs
 
 is-float-requires : tie.Need-is-float-requires
 is-float-requires c κs = search needs
 
-only-requires-15 : tie.Need-only-requires-15
-only-requires-15 c κs = search needs
+only-requires-14 : tie.Need-only-requires-14
+only-requires-14 c κs = search needs
 
 is-float-requires-2 : tie.Need-is-float-requires-2
 is-float-requires-2 c κs = search needs
 
-only-requires-16 : tie.Need-only-requires-16
-only-requires-16 c κs = search needs
+only-requires-15 : tie.Need-only-requires-15
+only-requires-15 c κs = search needs
 
 is-float-requires-3 : tie.Need-is-float-requires-3
 is-float-requires-3 c κs = search needs
 
-only-requires-17 : tie.Need-only-requires-17
-only-requires-17 c κs = search needs
+only-requires-16 : tie.Need-only-requires-16
+only-requires-16 c κs = search needs
 
 is-float-requires-4 : tie.Need-is-float-requires-4
 is-float-requires-4 c κs = search needs
 
-only-requires-18 : tie.Need-only-requires-18
-only-requires-18 c κs = search needs
+only-requires-17 : tie.Need-only-requires-17
+only-requires-17 c κs = search needs
 
 is-float-requires-5 : tie.Need-is-float-requires-5
 is-float-requires-5 c κs = search needs
 
-only-requires-19 : tie.Need-only-requires-19
-only-requires-19 c κs = search needs
+only-requires-18 : tie.Need-only-requires-18
+only-requires-18 c κs = search needs
 
 is-float-requires-6 : tie.Need-is-float-requires-6
 is-float-requires-6 c κs = search needs
 
-only-requires-20 : tie.Need-only-requires-20
-only-requires-20 c κs = search needs
+only-requires-19 : tie.Need-only-requires-19
+only-requires-19 c κs = search needs
 
 is-float-requires-7 : tie.Need-is-float-requires-7
 is-float-requires-7 c κs = search needs
 
-only-requires-21 : tie.Need-only-requires-21
-only-requires-21 c κs = search needs
+only-requires-20 : tie.Need-only-requires-20
+only-requires-20 c κs = search needs
 
 is-float-requires-8 : tie.Need-is-float-requires-8
 is-float-requires-8 c κs = search needs
 
-only-requires-22 : tie.Need-only-requires-22
-only-requires-22 c κs = search needs
+only-requires-21 : tie.Need-only-requires-21
+only-requires-21 c κs = search needs
 
 is-float-requires-9 : tie.Need-is-float-requires-9
 is-float-requires-9 c κs = search needs
 
-only-requires-23 : tie.Need-only-requires-23
-only-requires-23 c κs = search needs
+only-requires-22 : tie.Need-only-requires-22
+only-requires-22 c κs = search needs
 
 is-float-requires-10 : tie.Need-is-float-requires-10
 is-float-requires-10 c κs = search needs
@@ -145,8 +133,8 @@ is-float-requires-10 c κs = search needs
 pattern-width-requires : tie.Need-pattern-width-requires
 pattern-width-requires c κs = search needs
 
-only-requires-24 : tie.Need-only-requires-24
-only-requires-24 c κs = search needs
+only-requires-23 : tie.Need-only-requires-23
+only-requires-23 c κs = search needs
 
 is-float-requires-11 : tie.Need-is-float-requires-11
 is-float-requires-11 c κs = search needs
@@ -154,8 +142,8 @@ is-float-requires-11 c κs = search needs
 pattern-width-requires-2 : tie.Need-pattern-width-requires-2
 pattern-width-requires-2 c κs = search needs
 
-only-requires-25 : tie.Need-only-requires-25
-only-requires-25 c κs = search needs
+only-requires-24 : tie.Need-only-requires-24
+only-requires-24 c κs = search needs
 
 is-float-requires-12 : tie.Need-is-float-requires-12
 is-float-requires-12 c κs = search needs
@@ -163,14 +151,14 @@ is-float-requires-12 c κs = search needs
 is-word-requires : tie.Need-is-word-requires
 is-word-requires c κs = search needs
 
-only-requires-26 : tie.Need-only-requires-26
-only-requires-26 c κs = search needs
+only-requires-25 : tie.Need-only-requires-25
+only-requires-25 c κs = search needs
 
 is-word-requires-2 : tie.Need-is-word-requires-2
 is-word-requires-2 c κs = search needs
 
-only-requires-27 : tie.Need-only-requires-27
-only-requires-27 c κs = search needs
+only-requires-26 : tie.Need-only-requires-26
+only-requires-26 c κs = search needs
 
 is-float-requires-13 : tie.Need-is-float-requires-13
 is-float-requires-13 c κs = search needs
@@ -178,8 +166,8 @@ is-float-requires-13 c κs = search needs
 is-float-requires-14 : tie.Need-is-float-requires-14
 is-float-requires-14 c κs = search needs
 
-only-requires-28 : tie.Need-only-requires-28
-only-requires-28 c κs = search needs
+only-requires-27 : tie.Need-only-requires-27
+only-requires-27 c κs = search needs
 
 returns : tie.Need-returns
 unfolding sortRow
@@ -239,7 +227,7 @@ returns-14 c = rw (c .before .match .keys14) (cc)
 
 returns-15 : tie.Need-returns-15
 unfolding sortRow
-returns-15 c = rw (c .before .before .before .match .keys15) (cc)
+returns-15 c = rw (c .before .match .keys15) (cc)
 
 returns-16 : tie.Need-returns-16
 unfolding sortRow
@@ -327,43 +315,39 @@ sort-of-spec =
     is-bits-requires-5
     only-requires-13
     extract-sort-requires
-    is-bits-requires-6
-    is-bits-requires-7
-    add-only
-    add-only-2
-    only-requires-14
+    concat-sort-requires
     is-float-requires
-    only-requires-15
+    only-requires-14
     is-float-requires-2
-    only-requires-16
+    only-requires-15
     is-float-requires-3
-    only-requires-17
+    only-requires-16
     is-float-requires-4
-    only-requires-18
+    only-requires-17
     is-float-requires-5
-    only-requires-19
+    only-requires-18
     is-float-requires-6
-    only-requires-20
+    only-requires-19
     is-float-requires-7
-    only-requires-21
+    only-requires-20
     is-float-requires-8
-    only-requires-22
+    only-requires-21
     is-float-requires-9
-    only-requires-23
+    only-requires-22
     is-float-requires-10
     pattern-width-requires
-    only-requires-24
+    only-requires-23
     is-float-requires-11
     pattern-width-requires-2
-    only-requires-25
+    only-requires-24
     is-float-requires-12
     is-word-requires
-    only-requires-26
+    only-requires-25
     is-word-requires-2
-    only-requires-27
+    only-requires-26
     is-float-requires-13
     is-float-requires-14
-    only-requires-28
+    only-requires-27
     returns
     returns-2
     returns-3
