@@ -8,6 +8,7 @@ use Prim.Native.Nat.{ℕ, _*_, _/_, _%_, _^_, _<_}
 use lib.Bits.{bitAnd, bitOr, bitXor}
 use lib.Dec.{ltb, eqb}
 use lib.ListN.{length}
+use denote.Ref.{RefT, now}
 use Rattle.texts.specs.Bytes as texts
 use Rattle.texts.specs.Letters.{lowerOf, blankIs, trimOf, sameLetters}
 use Rattle.texts.specs.Places.{placeOf}
@@ -30,10 +31,11 @@ use Rattle.forms.specs.declared.X87Arith.{X87Arith}
 use Rattle.forms.specs.declared.X87Condition.{X87Condition}
 use Rattle.forms.specs.declared.UnaryOp.{UnaryOp}
 use Rattle.records.specs.Format.{takenAt}
-use Rattle.records.specs.Numbers.{refusalOf}
+use Rattle.records.specs.Numbers as numbers
 use Rattle.records.specs.declared.Refusal.{Refusal}
 use Rattle.records.specs.declared.Cursor.{Cursor}
 use Rattle.records.specs.declared.Taken.{Taken}
+use Rattle.reader.specs.declared.Reader.{Reader}
 use Rattle.lists.specs.Rows.{roomOf}
 use Rattle.lists.specs.Steps.{Built, Did, Told, Does}
 use Rattle.lists.specs.Nodes.{nodeOf, statementOf, freshOf, temporaryOf}
@@ -121,8 +123,20 @@ pushed-same p q = λ i. record { state = p i; overflow = q i }
 done-same : {r s : Done} → r .state ≡ s .state → r .answer ≡ s .answer → r ≡ s
 done-same p q = λ i. record { state = p i; answer = q i }
 
+reader-same : {r s : Reader} → r .input ≡ s .input → r .at ≡ s .at → r ≡ s
+reader-same p q = λ i. record { input = p i; at = q i }
+
 pushed : {x : State} {y : Bool} → Determined (λ (r : Pushed). (r .state ≡ x) × (r .overflow ≡ y))
 pushed r s p q = pushed-same (p .0 ∙ sym (q .0)) (p .1 ∙ sym (q .1))
+
+placed : {x : RefT (List ℕ)} {n : ℕ} → Determined (λ (r : Reader). (r .input ≡ x) × (r .at ≡ n))
+placed r s p q = reader-same (p .0 ∙ sym (q .0)) (p .1 ∙ sym (q .1))
+
+-- where the reader is left follows from what it took
+takes : {t : Taken} {x : RefT (List ℕ)} → Determined (λ (r : Taken × Reader). (r .0 ≡ t) × (r .1 .input ≡ x) × (r .1 .at ≡ numbers.placeOf (r .0 .outcome)))
+takes r s p q =
+    let e = p .0 ∙ sym (q .0) in
+    λ i. (e i, reader-same (p .1 ∙ sym (q .1)) (p .2 ∙ ap (λ (t : Taken). numbers.placeOf (t .outcome)) e ∙ sym (q .2)) i)
 
 did : {b : Built} {old : List ℕ} → Determined₁ (λ (r : Step) l. Did b (r .state) (r .at) old l)
 did r s l m p q = (step-same (p .state ∙ sym (q .state)) (p .number ∙ sym (q .number)), cc)
@@ -209,11 +223,25 @@ forms·family-text t = one
 
 -- records
 
-pub records·refusal-number : (r : Refusal) → Determined (λ (n : ℕ). n ≡ refusalOf r)
+pub records·refusal-number : (r : Refusal) → Determined (λ (n : ℕ). n ≡ numbers.refusalOf r)
 records·refusal-number r = one
 
 pub records·read-record : (s : List ℕ) (c : Cursor) → Determined (λ (r : Taken). r ≡ takenAt s (c .at))
 records·read-record s c = one
+
+-- reader: a reference is its bytes, its place in memory and its name, and `now` its bytes; `take` gives its answer and the reader as it leaves it
+
+pub reader·new : (input : RefT (List ℕ)) → Determined (λ (r : Reader). (r .input ≡ input) × (r .at ≡ 0))
+reader·new input = placed
+
+pub reader·moved : (r : Reader) (at : ℕ) → Determined (λ (q : Reader). (q .input ≡ r .input) × (q .at ≡ at))
+reader·moved r at = placed
+
+pub reader·take : (r : Reader) → Determined (λ (t : Taken × Reader). (t .0 ≡ takenAt (now (r .input)) (r .at)) × (t .1 .input ≡ r .input) × (t .1 .at ≡ numbers.placeOf (t .0 .outcome)))
+reader·take r = takes
+
+pub reader·record-at : (input : List ℕ) (at : ℕ) → Determined (λ (r : Taken). r ≡ takenAt input at)
+reader·record-at input at = one
 
 -- lists
 

@@ -5,7 +5,6 @@ ghost use mathlib.Core.Path.{_≡_};
 ghost use Rattle.listing.specs.Run.{Runs, runOf, stoppedAt};
 ghost use Rattle.listing.specs.Listing.{Lists, textOf};
 use lists::State;
-use records::Cursor;
 use records::Outcome;
 
 // Where a run stopped: its state, and a refusal's number and place, 0 and 0 where there is none.
@@ -42,7 +41,7 @@ pub fn run(input: &[u8], nodes: &mut [u64], statements: &mut [u64]) -> Stop
     let mut at = 0;
     let mut left = input.len();
     while 0 < left {
-        let t = records::read_record(input, Cursor { at: at });
+        let t = reader::record_at(input, at);
         let insn = t.insn;
         let o = t.outcome;
         match o {

@@ -28,8 +28,8 @@ returns c = rw (c .stopped .ensures, c .before .before .new .ensures) (too-long 
 loop-holds : tie.Need-loop-holds Inv-loop μ-loop
 loop-holds c = (rw (c .before .new .ensures), refl, refl)
 
-read-record-requires : tie.Need-read-record-requires Inv-loop μ-loop
-read-record-requires c κs = search needs
+record-at-requires : tie.Need-record-at-requires Inv-loop μ-loop
+record-at-requires c κs = search needs
 
 enum-told : tie.Need-enum-told Inv-loop μ-loop
 enum-told c = search needs
@@ -44,7 +44,7 @@ same-length-2 : tie.Need-same-length-2 Inv-loop μ-loop
 same-length-2 c = c .before .before .before .before .before .before .loop .inv .2
 
 returns-2 : tie.Need-returns-2 Inv-loop μ-loop
-returns-2 c = rw (c .stopped2 .ensures) (ran _ _ _ _ _ _ (c .before .before .before .before .before .before .before .if1 .left) _ _ (c .before .before .before .before .before .before .loop .inv .0) _ (at-end _ _ _ _ _ _ _ (c .before .before .before .before .read-record .ensures) _ (c .before .before .before .before .before .loop-test .taken) (c .before .enum-told .given .1)))
+returns-2 c = rw (c .stopped2 .ensures) (ran _ _ _ _ _ _ (c .before .before .before .before .before .before .before .if1 .left) _ _ (c .before .before .before .before .before .before .loop .inv .0) _ (at-end _ _ _ _ _ _ _ (c .before .before .before .before .record-at .ensures) _ (c .before .before .before .before .before .loop-test .taken) (c .before .enum-told .given .1)))
 
 enum-known-o : tie.Need-enum-known-o Inv-loop μ-loop
 enum-known-o c = search needs
@@ -62,7 +62,7 @@ same-length-4 : tie.Need-same-length-4 Inv-loop μ-loop
 same-length-4 c = c .before .before .before .before .before .before .before .before .loop .inv .2
 
 returns-3 : tie.Need-returns-3 Inv-loop μ-loop
-returns-3 c = rw (c .stopped3 .ensures, c .before .refusal-number .ensures) (ran _ _ _ _ _ _ (c .before .before .before .before .before .before .before .before .before .if1 .left) _ _ (c .before .before .before .before .before .before .before .before .loop .inv .0) _ (refused _ _ _ _ _ _ _ (c .before .before .before .before .before .before .read-record .ensures) _ _ (c .before .before .before .before .before .before .before .loop-test .taken) (c .before .before .before .o .given .1)))
+returns-3 c = rw (c .stopped3 .ensures, c .before .refusal-number .ensures) (ran _ _ _ _ _ _ (c .before .before .before .before .before .before .before .before .before .if1 .left) _ _ (c .before .before .before .before .before .before .before .before .loop .inv .0) _ (refused _ _ _ _ _ _ _ (c .before .before .before .before .before .before .record-at .ensures) _ _ (c .before .before .before .before .before .before .before .loop-test .taken) (c .before .before .before .o .given .1)))
 
 enum-known-o-2 : tie.Need-enum-known-o-2 Inv-loop μ-loop
 enum-known-o-2 c = search needs
@@ -80,7 +80,7 @@ same-length-6 : tie.Need-same-length-6 Inv-loop μ-loop
 same-length-6 c = long-statements (c .before .before .before .before .before .before .before .before .lift .ensures) ∙ c .before .before .before .before .before .before .before .before .before .before .before .before .before .before .before .before .before .loop .inv .2
 
 returns-4 : tie.Need-returns-4 Inv-loop μ-loop
-returns-4 c = rw (c .stopped4 .ensures) (ran _ _ _ _ _ _ (c .before .before .before .before .before .before .before .before .before .before .before .before .before .before .before .before .before .before .if1 .left) _ _ (c .before .before .before .before .before .before .before .before .before .before .before .before .before .before .before .before .before .loop .inv .0) _ (lift-refused _ _ _ _ _ _ _ (c .before .before .before .before .before .before .before .before .before .before .before .before .before .before .before .read-record .ensures) _ _ _ _ _ (c .before .before .before .before .before .before .before .before .lift .ensures) (c .before .before .before .before .before .before .before .before .before .before .before .before .before .before .before .before .loop-test .taken) (c .before .before .before .before .before .before .before .before .before .before .before .before .o2 .given .1) (c .before .if2 .taken)))
+returns-4 c = rw (c .stopped4 .ensures) (ran _ _ _ _ _ _ (c .before .before .before .before .before .before .before .before .before .before .before .before .before .before .before .before .before .before .if1 .left) _ _ (c .before .before .before .before .before .before .before .before .before .before .before .before .before .before .before .before .before .loop .inv .0) _ (lift-refused _ _ _ _ _ _ _ (c .before .before .before .before .before .before .before .before .before .before .before .before .before .before .before .record-at .ensures) _ _ _ _ _ (c .before .before .before .before .before .before .before .before .lift .ensures) (c .before .before .before .before .before .before .before .before .before .before .before .before .before .before .before .before .loop-test .taken) (c .before .before .before .before .before .before .before .before .before .before .before .before .o2 .given .1) (c .before .if2 .taken)))
 
 sub-left : tie.Need-sub-left Inv-loop μ-loop
 sub-left c = search needs
@@ -90,7 +90,7 @@ loop-less c = omega arith
 
 loop-again : tie.Need-loop-again Inv-loop μ-loop
 loop-again c =
-    let f = lifts-on _ _ (c .before .before .before .before .before .before .before .before .before .before .before .before .before .before .before .before .loop .left) _ _ _ _ (c .before .before .before .before .before .before .before .before .before .before .before .before .before .before .read-record .ensures) _ _ _ _ _ (c .before .before .before .before .before .before .before .lift .ensures) (c .before .before .before .before .before .before .before .before .before .before .before .before .before .before .before .before .loop .left - 1) (omega arith) (c .before .before .before .before .before .before .before .before .before .before .before .o2 .given .1) (c .if2 .left) in
+    let f = lifts-on _ _ (c .before .before .before .before .before .before .before .before .before .before .before .before .before .before .before .before .loop .left) _ _ _ _ (c .before .before .before .before .before .before .before .before .before .before .before .before .before .before .record-at .ensures) _ _ _ _ _ (c .before .before .before .before .before .before .before .lift .ensures) (c .before .before .before .before .before .before .before .before .before .before .before .before .before .before .before .before .loop .left - 1) (omega arith) (c .before .before .before .before .before .before .before .before .before .before .before .o2 .given .1) (c .if2 .left) in
     (sym f ∙ c .before .before .before .before .before .before .before .before .before .before .before .before .before .before .before .before .loop .inv .0, long-nodes (c .before .before .before .before .before .before .before .lift .ensures) ∙ c .before .before .before .before .before .before .before .before .before .before .before .before .before .before .before .before .loop .inv .1, long-statements (c .before .before .before .before .before .before .before .lift .ensures) ∙ c .before .before .before .before .before .before .before .before .before .before .before .before .before .before .before .before .loop .inv .2)
 
 stopped-requires-5 : tie.Need-stopped-requires-5 Inv-loop μ-loop
@@ -115,7 +115,7 @@ run-spec =
     stopped-requires
     returns
     loop-holds
-    read-record-requires
+    record-at-requires
     enum-told
     stopped-requires-2
     same-length
