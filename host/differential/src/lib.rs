@@ -13,10 +13,13 @@ pub mod inputs;
 pub mod instructions;
 #[cfg(not(no_oracle))]
 pub mod lift;
+#[cfg(not(no_oracle))]
+pub mod listings;
 pub mod names;
 pub mod operands;
 pub mod patterns;
 pub mod processor;
+pub mod programs;
 pub mod record_lifts;
 pub mod records;
 pub mod report;
@@ -49,6 +52,10 @@ pub mod oracle;
 #[cfg(no_oracle)]
 #[path = "absent_lift.rs"]
 pub mod lift;
+
+#[cfg(no_oracle)]
+#[path = "absent_listings.rs"]
+pub mod listings;
 
 /// Say that a test is left out, past the test harness's capture.
 pub fn left_out(why: &str) {

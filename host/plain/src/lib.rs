@@ -35,3 +35,4 @@ pub const TOO_WIDE: u32 = 9;
 pub const TOO_SHORT: u32 = 10;
 pub const WRONG_MARK: u32 = 11;
 pub const ENDS_EARLY: u32 = 12;
+pub const INPUT_TOO_LONG: u32 = 13;

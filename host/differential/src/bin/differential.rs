@@ -1,7 +1,8 @@
 //! `differential CALL [SIZE] [SEED]`: compare the static library with the
 //! Rust; for `records` and `checks` with document 01 said plainly, for
 //! `record-lifts` with the two calls that it stands for, for `z3` and
-//! `cvc5` with that solver, for `images` with the processor. Ends with
+//! `cvc5` with that solver, for `images` with the processor. `x87lift` is
+//! the program, compared with the plain reader and the Rust. Ends with
 //! status 1 where anything differs.
 
 use std::env;
@@ -12,11 +13,12 @@ use differential::report::Report;
 use differential::solver::Solver;
 use differential::subject::Library;
 use differential::{
-    NO_ORACLE, checks, classify, images, lift, oracle, record_lifts, records, values,
+    NO_ORACLE, checks, classify, images, lift, listings, oracle, record_lifts, records, values,
 };
+use program::Program;
 
 const USAGE: &str =
-    "differential classify|records|lift|record-lifts|checks|z3|cvc5|images [SIZE] [SEED]";
+    "differential classify|records|lift|record-lifts|checks|z3|cvc5|images|x87lift [SIZE] [SEED]";
 
 /// Sizes of the full runs.
 const CLASSIFY: u64 = 3_500_000;
@@ -26,6 +28,7 @@ const RECORD_LIFTS: u64 = 1_500_000;
 const CHECKS: u64 = 2_000_000;
 const LISTS: u64 = 40_000;
 const IMAGES: u64 = 5_000_000;
+const LISTINGS: u64 = 25_000;
 
 fn main() -> ExitCode {
     let words: Vec<String> = env::args().skip(1).collect();
@@ -51,6 +54,15 @@ fn main() -> ExitCode {
         )),
         "checks" => Some(checks::run(&Library, size.unwrap_or(CHECKS), seed)),
         "images" => Some(images::run(&Library, size.unwrap_or(IMAGES), seed)),
+        "x87lift" => {
+            let Some(program) = Program::at_hand() else {
+                return failure(program::MISSING);
+            };
+            let size = size.unwrap_or(LISTINGS);
+            with_oracle(|| {
+                listings::run(&program, size, seed).unwrap_or_else(|e| panic!("x87lift: {e}"))
+            })
+        }
         "z3" => with_solver(Solver::Z3, size, seed),
         "cvc5" => with_solver(Solver::Cvc5, size, seed),
         _ => return usage(),

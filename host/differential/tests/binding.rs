@@ -1,0 +1,237 @@
+//! The typed binding, compared with the calls below it: an instruction as
+//! the binding has it and as its bytes are one and the same.
+
+use differential::instructions::Grid;
+use differential::rng::Rng;
+use differential::sequences::Profile;
+use plain::state::{DEPTH, NODES, ROW, STATE, STATEMENTS};
+use sleetgate::{Form, Instruction, Lifted, Lifter, Operand, Place, Source, Why, classify, effect};
+
+/// Rows that each list is lent.
+const ROOM: usize = 400;
+
+/// The instruction as the binding has it, if it can be said there: kinds
+/// and flags out of range, and texts that are no UTF-8, cannot.
+fn typed(insn: &plain::Instruction) -> Option<Instruction> {
+    let text = |text: &plain::Text| String::from_utf8(text.used().to_vec()).ok();
+    let whole = |t: &plain::Text| usize::from(t.len) <= plain::TEXT;
+    let operands = insn.used().iter().map(|operand| match operand.kind {
+        plain::REGISTER if whole(&operand.text) => text(&operand.text).map(Operand::Register),
+        plain::MEMORY => {
+            let (address, slot) = (operand.address, operand.slot);
+            let place = match (operand.known, slot) {
+                (0, _) => Place::Unknown,
+                (1, 0) => Place::Address(address),
+                (1, slot) => Place::Slot { address, slot },
+                _ => return None,
+            };
+            Some(Operand::memory(operand.width, place))
+        }
+        plain::OTHER => Some(Operand::Other),
+        _ => None,
+    });
+    let operands: Option<Vec<Operand>> = operands.collect();
+    let counted = usize::from(insn.count) <= plain::OPERANDS && whole(&insn.mnemonic);
+    let name = text(&insn.mnemonic).filter(|_| counted)?;
+    Some(Instruction::new(insn.address, name, operands?))
+}
+
+/// The lift by the calls below the binding.
+struct Raw {
+    state: [u64; STATE],
+    nodes: Vec<u64>,
+    statements: Vec<u64>,
+}
+
+impl Raw {
+    fn fresh() -> Self {
+        Self {
+            state: [0; STATE],
+            nodes: vec![0; ROOM * ROW],
+            statements: vec![0; ROOM * ROW],
+        }
+    }
+
+    fn lift(&mut self, insn: &plain::Instruction) -> u32 {
+        let (nodes, statements) = (&mut self.nodes, &mut self.statements);
+        sleetgate_sys::lift(&insn.to_flat(), &mut self.state, nodes, statements)
+    }
+
+    /// Whether the binding's lift has the same state and lists.
+    fn is(&self, lifter: &Lifter) -> bool {
+        let words = |list: &[u64], at: usize| {
+            let rows = usize::try_from(self.state[at]).expect("in memory");
+            list[..rows * ROW].to_vec()
+        };
+        let depth = usize::try_from(self.state[DEPTH]).expect("at most 8");
+        lifter.stack() == &self.state[..depth]
+            && lifter.nodes().words() == words(&self.nodes, NODES)
+            && lifter.statements().words() == words(&self.statements, STATEMENTS)
+            && lifter.nodes().iter().count() == lifter.nodes().len()
+            && lifter.statements().iter().count() == lifter.statements().len()
+    }
+}
+
+fn number(lifted: Result<Lifted, sleetgate::Refusal>) -> u32 {
+    match lifted {
+        Ok(Lifted::Modelled) => 0,
+        Ok(Lifted::Declined(Why::Form)) => 1,
+        Ok(Lifted::Declined(Why::Overflow)) => 2,
+        Err(refusal) => refusal.number(),
+    }
+}
+
+/// How many instructions of some sequences were compared, and how many
+/// differed, where the binding is handed what `change` makes of each.
+fn compared(change: fn(Instruction) -> Instruction) -> (u32, u32) {
+    let (grid, mut rng) = (Grid::default(), Rng::new(5));
+    let (mut all, mut different) = (0, 0);
+    for _ in 0..200 {
+        let profile = Profile::random(&mut rng);
+        let (mut raw, mut lifter) = (Raw::fresh(), Lifter::with_capacity(ROOM, ROOM));
+        for _ in 0..profile.length {
+            let depth = lifter.stack().len();
+            let insn = profile.next(&grid, &mut rng, depth);
+            let Some(typed) = typed(&insn).map(change) else {
+                continue;
+            };
+            let mut form = [0; sleetgate_sys::FORM];
+            let classified = sleetgate_sys::classify(&insn.to_flat(), &mut form);
+            let mut flags = [0; sleetgate_sys::EFFECT];
+            let effected = sleetgate_sys::effect(&insn.to_flat(), &mut flags);
+            let same = told(classify(&typed)) == (classified, form)
+                && effect_told(effect(&typed)) == (effected, flags)
+                && number(lifter.lift(&typed)) == raw.lift(&insn)
+                && raw.is(&lifter);
+            all += 1;
+            if !same {
+                different += 1;
+                break;
+            }
+        }
+    }
+    (all, different)
+}
+
+/// The answer of `classify`, and the form's words.
+fn told(form: Result<Option<Form>, sleetgate::Refusal>) -> (u32, [u64; sleetgate_sys::FORM]) {
+    match form {
+        Err(refusal) => (refusal.number(), [0; 8]),
+        Ok(None) => (1, [0; 8]),
+        Ok(Some(form)) => (0, words(form)),
+    }
+}
+
+/// The words of a form, from document 01's numbers for its parts.
+fn words(form: Form) -> [u64; sleetgate_sys::FORM] {
+    let first = match form {
+        Form::PushConst(bits) => {
+            let low = bits & u128::from(u64::MAX);
+            let part = |part: u128| u64::try_from(part).expect("64 bits");
+            vec![1, part(low), part(bits >> 64)]
+        }
+        Form::PushMemory { width, format } => vec![2, width.into(), format as u64],
+        Form::PushSlot(index) => vec![3, index.into()],
+        Form::StoreMemory {
+            width,
+            format,
+            pop,
+            rounding,
+        } => vec![4, width.into(), format as u64, pop.into(), rounding as u64],
+        Form::StoreSlot { index, pop } => vec![5, index.into(), pop.into()],
+        Form::Arith {
+            op,
+            dst,
+            src,
+            reversed,
+            pop,
+        } => {
+            let [kind, which, format] = source(src);
+            let (reversed, pop) = (reversed.into(), pop.into());
+            vec![6, op as u64, dst.into(), kind, which, format, reversed, pop]
+        }
+        Form::CompareStatus { src, pops } => {
+            let [kind, which, format] = source(src);
+            vec![7, kind, which, format, pops.into()]
+        }
+        Form::CompareFlags { src, pop } => vec![8, src.into(), pop.into()],
+        Form::ConditionalMove { src, condition } => vec![9, src.into(), condition as u64],
+        Form::StoreStatus => vec![10],
+        Form::Exchange(index) => vec![11, index.into()],
+        Form::Unary(op) => vec![12, op as u64],
+    };
+    let mut words = [0; sleetgate_sys::FORM];
+    words[..first.len()].copy_from_slice(&first);
+    words
+}
+
+/// Kind, place or width, and format of a source.
+fn source(source: Source) -> [u64; 3] {
+    match source {
+        Source::Slot(index) => [0, index.into(), 0],
+        Source::Memory { width, format } => [1, width.into(), format as u64],
+    }
+}
+
+/// The answer of `effect`, and its words.
+fn effect_told(
+    effect: Result<Option<sleetgate::Effect>, sleetgate::Refusal>,
+) -> (u32, [u64; sleetgate_sys::EFFECT]) {
+    match effect {
+        Err(refusal) => (refusal.number(), [0; 7]),
+        Ok(None) => (1, [0; 7]),
+        Ok(Some(e)) => {
+            let flags = [
+                e.defines_stack,
+                e.defines_status,
+                e.uses_stack,
+                e.uses_status,
+                e.defines_flags,
+                e.reads_flags,
+                e.writes_ax,
+            ];
+            (0, flags.map(u64::from))
+        }
+    }
+}
+
+#[test]
+fn the_binding_lifts_as_the_calls_below_it() {
+    assert!(sleetgate_sys::at_hand(), "{}", sleetgate_sys::MISSING);
+    let (all, different) = compared(|insn| insn);
+    println!("compared {all}");
+    assert!(all > 10_000, "{all}");
+    assert_eq!(different, 0);
+}
+
+#[test]
+fn a_binding_with_a_fault_is_reported() {
+    assert!(sleetgate_sys::at_hand(), "{}", sleetgate_sys::MISSING);
+    let faults: [fn(Instruction) -> Instruction; 4] = [
+        |mut insn| {
+            insn.operands.reverse();
+            insn
+        },
+        |mut insn| {
+            insn.address = insn.address.wrapping_add(1);
+            insn
+        },
+        |mut insn| {
+            for operand in &mut insn.operands {
+                if let Operand::Memory { place, .. } = operand
+                    && let Place::Slot { address, .. } = *place
+                {
+                    *place = Place::Address(address);
+                }
+            }
+            insn
+        },
+        |mut insn| {
+            insn.mnemonic.push('p');
+            insn
+        },
+    ];
+    for (number, fault) in faults.into_iter().enumerate() {
+        assert!(compared(fault).1 > 0, "fault {number}");
+    }
+}

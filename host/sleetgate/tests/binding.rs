@@ -1,0 +1,194 @@
+//! The binding says what the library says, and turns what is out of range
+//! into document 01's numbers.
+
+use std::collections::BTreeSet;
+
+use sleetgate::{
+    Format, Instruction, Item, Lifted, Lifter, Node, Nodes, Operand, Place, Refusal, State,
+    Statement, Why, check, classify, effect, evaluate, image, read_record, write_record,
+};
+
+fn insn(name: &str, operands: &[&str]) -> Instruction {
+    Instruction::new(
+        0,
+        name,
+        operands.iter().map(|&text| Operand::register(text)),
+    )
+}
+
+#[test]
+fn texts_and_counts_out_of_range_are_refused() {
+    let mut lifter = Lifter::with_capacity(64, 64);
+    for length in [33, 255, 256, 288, 1_000] {
+        let text = "f".repeat(length);
+        for long in [insn(&text, &[]), insn("fld", &[&text])] {
+            assert_eq!(classify(&long), Err(Refusal::Text));
+            assert_eq!(effect(&long), Err(Refusal::Text));
+            assert_eq!(lifter.lift(&long), Err(Refusal::Text));
+            assert_eq!(write_record(&long, &mut Vec::new()), Err(Refusal::Text));
+        }
+    }
+    for count in [4, 255, 256, 259, 300] {
+        let many = insn("fld", &vec!["st(1)"; count]);
+        assert_eq!(classify(&many), Err(Refusal::Shape));
+        assert_eq!(effect(&many), Err(Refusal::Shape));
+        assert_eq!(lifter.lift(&many), Err(Refusal::Shape));
+        assert_eq!(write_record(&many, &mut Vec::new()), Err(Refusal::Shape));
+    }
+    assert_eq!(classify(&insn("fldé", &[])), Err(Refusal::Text));
+    assert_eq!(lifter.state(), State::default());
+}
+
+#[test]
+fn a_text_of_32_bytes_is_taken() {
+    let name = format!("{}fld1", " ".repeat(28));
+    let mut lifter = Lifter::with_capacity(64, 64);
+    assert_eq!(lifter.lift(&insn(&name, &[])), Ok(Lifted::Modelled));
+}
+
+#[test]
+fn refusals_come_in_the_order_of_document_01() {
+    let mut lifter = Lifter::with_capacity(0, 0);
+    let long = "f".repeat(33);
+    let four = insn(&long, &["st(1)"; 4]);
+    assert_eq!(lifter.lift(&four), Err(Refusal::Shape));
+    lifter.go_on_from(State {
+        nodes: 1,
+        ..State::default()
+    });
+    assert_eq!(lifter.lift(&four), Err(Refusal::State));
+}
+
+/// The kinds of these rows, each once.
+fn kinds(rows: impl Iterator<Item = [u64; 4]>) -> Vec<u64> {
+    let kinds: BTreeSet<u64> = rows.map(|row| row[0]).collect();
+    kinds.into_iter().collect()
+}
+
+#[test]
+fn every_kind_of_row_that_the_lifter_writes_is_a_node_or_a_statement() {
+    let memory = |width, place| Operand::memory(width, place);
+    let slot = Place::Slot {
+        address: 2,
+        slot: 9,
+    };
+    let mut lifter = Lifter::with_capacity(1_024, 256);
+    let mut lift = |name: &str, operands: Vec<Operand>| {
+        lifter
+            .lift(&Instruction::new(1, name, operands))
+            .expect("there is room")
+    };
+    lift("fld", vec![memory(80, Place::Address(1))]);
+    lift("fild", vec![memory(32, slot)]);
+    for name in [
+        "faddp", "fsubp", "fmulp", "fdivp", "fsqrt", "frndint", "fabs", "fchs",
+    ] {
+        lift(name, vec![]);
+    }
+    lift("fcom", vec![]);
+    lift("fnstsw", vec![Operand::register("ax")]);
+    lift("fcomi", vec![Operand::register("st(1)")]);
+    lift(
+        "fcmovnbe",
+        ["st(0)", "st(1)"].map(Operand::register).to_vec(),
+    );
+    lift("fisttp", vec![memory(16, Place::Address(3))]);
+    lift("fstp", vec![memory(80, Place::Address(3))]);
+    lift("fstp", vec![memory(32, Place::Address(3))]);
+    assert_eq!(
+        lift("fld", vec![Operand::Other]),
+        Lifted::Declined(Why::Form)
+    );
+    let (nodes, statements) = (lifter.nodes(), lifter.statements());
+    assert_eq!(nodes.iter().count(), nodes.len());
+    assert_eq!(statements.iter().count(), statements.len());
+    let of_nodes = kinds(nodes.iter().map(|node| node.row()));
+    assert_eq!(of_nodes, (1..=29).collect::<Vec<u64>>());
+    let of_statements = kinds(statements.iter().map(|statement| statement.row()));
+    assert_eq!(of_statements, (1..=6).collect::<Vec<u64>>());
+    assert_eq!(check(nodes), Ok(()));
+}
+
+#[test]
+fn overflow_is_a_decline_of_its_own() {
+    let mut lifter = Lifter::with_capacity(64, 64);
+    for _ in 0..8 {
+        assert_eq!(lifter.lift(&insn("fld1", &[])), Ok(Lifted::Modelled));
+    }
+    let declined = lifter.lift(&insn("fld1", &[]));
+    assert_eq!(declined, Ok(Lifted::Declined(Why::Overflow)));
+    let last = lifter.statements().iter().last();
+    let expected = Statement::Unsupported {
+        answer: 2,
+        address: 0,
+    };
+    assert_eq!((last, lifter.stack()), (Some(expected), [].as_slice()));
+}
+
+#[test]
+fn rooms_are_at_most_65535() {
+    let mut lifter = Lifter::with_capacity(usize::MAX, usize::MAX);
+    let full = State {
+        nodes: 65_535,
+        ..State::default()
+    };
+    lifter.go_on_from(full);
+    assert_eq!(lifter.lift(&insn("fld1", &[])), Err(Refusal::NodeRoom));
+}
+
+#[test]
+fn views_of_a_state_that_is_not_valid_do_not_panic() {
+    let mut lifter = Lifter::with_capacity(1, 1);
+    lifter.go_on_from(State {
+        depth: u64::MAX,
+        nodes: u64::MAX,
+        statements: 7,
+        ..State::default()
+    });
+    assert_eq!(lifter.stack().len(), 8);
+    assert_eq!((lifter.nodes().len(), lifter.statements().len()), (1, 1));
+}
+
+#[test]
+fn columns_and_images_are_measured() {
+    let words = Node::words(&[Node::Status, Node::BvToFp(0, Format::Single)]);
+    let nodes = Nodes::new(&words);
+    assert_eq!(evaluate(nodes, &[0]), Err(Refusal::Short));
+    assert_eq!(evaluate(nodes, &[0, 0]), Err(Refusal::Sort { node: 1 }));
+    let one = Nodes::new(&words[..4]);
+    assert_eq!(evaluate(one, &[1 << 16]), Err(Refusal::Wide { node: 0 }));
+    assert_eq!(evaluate(one, &[0xffff]), Ok(vec![0xffff]));
+    let many = vec![0; 4 * 65_536];
+    assert_eq!(check(Nodes::new(&many)), Err(Refusal::Short));
+    assert_eq!(
+        image::read(&[0; 10], 1 << 79),
+        Err(Refusal::Wide { node: 0 })
+    );
+    assert_eq!(image::read(&[], 1 << 79), Err(Refusal::Short));
+}
+
+#[test]
+fn records_go_there_and_back() {
+    let operands = [
+        Operand::memory(80, Place::Unknown),
+        Operand::memory(
+            16,
+            Place::Slot {
+                address: 3,
+                slot: 4,
+            },
+        ),
+        Operand::Other,
+    ];
+    let insn = Instruction::new(u64::MAX, "FLD", operands);
+    let mut bytes = vec![9];
+    write_record(&insn, &mut bytes).expect("it has a record");
+    let next = bytes.len();
+    assert_eq!(read_record(&bytes, 1), Ok(Item::Record { insn, next }));
+    let refused = read_record(&bytes, next).expect_err("there is no end mark");
+    assert_eq!((refused.refusal, refused.place), (Refusal::EndsEarly, next));
+    assert_eq!(
+        refused.to_string(),
+        format!("refused (12): the bytes end early, at byte {next}")
+    );
+}

@@ -1,0 +1,59 @@
+//! Names of registers.
+
+/// General registers by number: 64, 32, 16 and 8 bits.
+const GENERAL: [[&str; 4]; 8] = [
+    ["rax", "eax", "ax", "al"],
+    ["rbx", "ebx", "bx", "bl"],
+    ["rcx", "ecx", "cx", "cl"],
+    ["rdx", "edx", "dx", "dl"],
+    ["rsi", "esi", "si", "sil"],
+    ["rdi", "edi", "di", "dil"],
+    ["rbp", "ebp", "bp", "bpl"],
+    ["rsp", "esp", "sp", "spl"],
+];
+
+/// Upper halves of 16-bit registers, and the instruction pointer.
+const OTHERS: [&str; 5] = ["ah", "bh", "ch", "dh", "rip"];
+
+/// Segment registers, which are no part of a sum.
+const SEGMENTS: [&str; 6] = ["cs", "ds", "es", "fs", "gs", "ss"];
+
+/// Beginnings of the names of other register files, which a number
+/// follows.
+const FILES: [&str; 9] = ["xmm", "ymm", "zmm", "mm", "cr", "dr", "tr", "k", "bnd"];
+
+/// The 64-bit register that a name is part of, for the eight that have
+/// names of their own.
+pub fn parent(name: &str) -> Option<&'static str> {
+    let row = GENERAL.iter().find(|row| row.contains(&name))?;
+    Some(row[0])
+}
+
+/// Whether this is a register that an address may be a sum of.
+pub fn is_general(name: &str) -> bool {
+    parent(name).is_some() || OTHERS.contains(&name) || is_numbered_general(name)
+}
+
+/// `r8` to `r15` with their narrower parts.
+fn is_numbered_general(name: &str) -> bool {
+    let Some(rest) = name.strip_prefix('r') else {
+        return false;
+    };
+    let number = rest.trim_end_matches(['d', 'w', 'b', 'l']);
+    rest.len() - number.len() <= 1 && matches!(number.parse(), Ok(8..=15))
+}
+
+/// Whether this is any register but a place on the x87 stack.
+pub fn is_register(name: &str) -> bool {
+    let numbered = |file: &&str| {
+        name.strip_prefix(*file)
+            .is_some_and(|n| n.parse::<u8>().is_ok())
+    };
+    is_general(name) || SEGMENTS.contains(&name) || FILES.iter().any(numbered)
+}
+
+/// Whether a text names an MMX register, which is an x87 register.
+pub fn names_mmx(text: &str) -> bool {
+    text.split(|c: char| !c.is_ascii_alphanumeric())
+        .any(|word| matches!(word.strip_prefix("mm"), Some(n) if n.parse::<u8>().is_ok()))
+}

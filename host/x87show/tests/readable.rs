@@ -1,0 +1,178 @@
+//! Listings and their readable texts.
+
+use sleetgate::{Instruction, Lifter, Operand, Place};
+use x87show::{Names, Wrong, show};
+
+/// The listing of some instructions, as the program prints it.
+fn listing(lifter: &Lifter, refused: &str) -> String {
+    let row = |mark: char, number: usize, row: [u64; 4]| {
+        let [kind, a, b, c] = row;
+        format!("{mark} {number} {kind} {a} {b} {c}\n")
+    };
+    let nodes = lifter.nodes().iter().enumerate();
+    let mut text: String = nodes.map(|(at, node)| row('n', at, node.row())).collect();
+    for (at, statement) in lifter.statements().iter().enumerate() {
+        text += &row('s', at, statement.row());
+    }
+    let state = lifter.state();
+    let counts = [state.depth, state.inputs, state.temporaries];
+    let words = counts.iter().chain(lifter.stack());
+    text.push('d');
+    text.extend(words.map(|word| format!(" {word}")));
+    text + "\n" + refused
+}
+
+fn operand(text: &str) -> Operand {
+    match text.split_once('@') {
+        Some((width, address)) => {
+            let address = address.parse().expect("an address number");
+            Operand::memory(width.parse().expect("a width"), Place::Address(address))
+        }
+        None => Operand::register(text),
+    }
+}
+
+/// The readable text of a line `NAME OPERAND OPERAND` for each
+/// instruction.
+fn shown(lines: &[&str]) -> String {
+    let mut lifter = Lifter::with_capacity(1_024, 256);
+    for (address, line) in (0x10..).zip(lines) {
+        let mut words = line.split(' ');
+        let name = words.next().unwrap_or_default();
+        let insn = Instruction::new(address, name, words.map(operand));
+        lifter.lift(&insn).expect("there is room");
+    }
+    show(&listing(&lifter, ""), &Names::default()).expect("it is a listing")
+}
+
+#[test]
+fn arithmetic_is_infix_with_few_brackets() {
+    let text = shown(&[
+        "fld 32@1",
+        "fadd 64@2",
+        "fmul 32@3",
+        "fsubr 32@4",
+        "fstp 32@5",
+    ]);
+    let expected = "m0 := [address 1], 32 bits\nm1 := [address 2], 64 bits\n\
+                    m2 := [address 3], 32 bits\nm3 := [address 4], 32 bits\n\
+                    [address 5] := f32(m3 - (m0 + m1) * m2)\nthe stack is empty\n";
+    assert_eq!(text, expected);
+}
+
+#[test]
+fn brackets_keep_the_order_of_operations() {
+    assert_eq!(
+        shown(&["fsub st(0) st(1)", "fsubp st(1) st(0)"]),
+        "st(0) = in1 - (in0 - in1)\n"
+    );
+    assert_eq!(
+        shown(&["fadd st(0) st(1)", "fsubrp st(1) st(0)"]),
+        "st(0) = in0 + in1 - in1\n"
+    );
+    assert_eq!(
+        shown(&["fdiv st(0) st(1)", "fchs"]),
+        "st(0) = -(in0 / in1)\nst(1) = in1\n"
+    );
+    assert_eq!(shown(&["fchs", "fsqrt"]), "st(0) = sqrt(-in0)\n");
+}
+
+#[test]
+fn parts_that_are_used_twice_have_names() {
+    assert_eq!(
+        shown(&["fadd st(0) st(1)", "fmul st(0) st(0)", "fmul st(0) st(0)"]),
+        "let t1 = in0 + in1\nlet t2 = t1 * t1\nst(0) = t2 * t2\nst(1) = in1\n"
+    );
+}
+
+#[test]
+fn long_formulas_are_divided() {
+    let lines: Vec<&str> = [["fadd 32@1"; 12], ["fmul 32@2"; 12]].concat();
+    let text = shown(&lines);
+    assert!(text.lines().all(|line| line.len() < 100), "{text}");
+}
+
+#[test]
+fn constants_are_decimal() {
+    assert_eq!(shown(&["fld1", "fldz"]), "st(0) = 0.0\nst(1) = 1.0\n");
+}
+
+#[test]
+fn images_and_integers_are_named() {
+    assert_eq!(
+        shown(&["fld 80@1", "fstp 80@2"]),
+        "m0 := [address 1], 80 bits\n[address 2] := f80(number(m0, in0))\nthe stack is empty\n"
+    );
+    assert_eq!(
+        shown(&["fild 16@1", "frndint", "fist 32@2", "fisttp 64@3"]),
+        "m0 := [address 1], 16 bits\nlet t1 = round(int(m0))\n[address 2] := i32(t1)\n\
+         [address 3] := i64(trunc(t1))\nthe stack is empty\n"
+    );
+}
+
+#[test]
+fn a_flag_is_read_where_it_is_read() {
+    let lines = [
+        "fcmovb st(0) st(1)",
+        "fcomi st(0) st(1)",
+        "fcmovnb st(0) st(1)",
+    ];
+    let expected = "CF1 := CF\nlet t1 = CF1 ? in1 : in0\nlet t2 = isnan(t1) || isnan(in1)\n\
+                    PF := t2\nZF := t2 || t1 == in1\nCF := t2 || t1 < in1\nOF := 0\nSF := 0\n\
+                    CF2 := CF\nst(0) = !CF2 ? in1 : t1\nst(1) = in1\n";
+    assert_eq!(shown(&lines), expected);
+}
+
+#[test]
+fn a_status_word_has_its_parts() {
+    let expected = "let t1 = isnan(in0) || isnan(in1)\n\
+                    fsw := status(C0: t1 || in0 < in1, C2: t1, C3: t1 || in0 == in1, rest: in2)\n\
+                    ax := fsw\nst(0) = in0\nst(1) = in1\n";
+    assert_eq!(shown(&["fcom", "fnstsw ax"]), expected);
+}
+
+#[test]
+fn declines_are_said_in_words() {
+    assert_eq!(
+        shown(&["fld1", "fsin"]),
+        "-- 0x11: not modelled, the stack is forgotten here\nthe stack is empty\n"
+    );
+    let full = shown(&["fld1"; 9]);
+    assert!(full.starts_with("-- 0x18: pushes onto a full stack, the stack is forgotten here\n"));
+    let mut lifter = Lifter::with_capacity(16, 16);
+    for name in ["entry", "fsin"] {
+        lifter.lift(&Instruction::new(17, name, [])).expect("room");
+    }
+    let names = Names::read("a 1 [eax]\ni 17 fsin\ne 17\nnothing\n");
+    let text = show(&listing(&lifter, "r 6 99\n"), &names).expect("it is a listing");
+    let expected = "-- 0x11 is entered from elsewhere: the stack is forgotten here\n\
+                    -- 0x11 fsin: not modelled, the stack is forgotten here\nthe stack is empty\n\
+                    refused (6): no room for the instruction's nodes, at byte 99\n";
+    assert_eq!(text, expected);
+}
+
+#[test]
+fn what_is_no_listing_is_named() {
+    let wrong = |text: &str| show(text, &Names::default()).expect_err("it is no listing");
+    let at = |line, why| Wrong { line, why };
+    assert_eq!(wrong(""), at(1, "the row d with the state is missing"));
+    assert_eq!(wrong("n 0 4 0 0 0\nx 1\n").line, 2);
+    assert_eq!(wrong("n 0 4 0 0\n").line, 1);
+    assert_eq!(
+        wrong("n 0 4 0 0 1\nd 0 0 0\n"),
+        at(1, "there is no such node")
+    );
+    assert_eq!(
+        wrong("n 0 26 0 0 0\nd 0 0 0\n"),
+        at(1, "an operand is an earlier node")
+    );
+    assert_eq!(wrong("n 1 4 0 0 0\n").line, 1);
+    assert_eq!(
+        wrong("s 0 3 0 0 0\n"),
+        at(1, "a statement names a node of the list")
+    );
+    assert_eq!(wrong("d 1 0 0\n").line, 1);
+    assert_eq!(wrong("d 0 0 0\nr 2 0\n"), at(2, "there is no such refusal"));
+    assert_eq!(wrong("d 0 0 0\nd 0 0 0\n").line, 2);
+    assert_eq!(wrong("d 0 0 zero\n"), at(1, "fields are decimal numbers"));
+}
