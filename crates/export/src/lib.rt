@@ -15,7 +15,6 @@ ghost use Rattle.export.specs.Steps.{Steps, steppedOf, toldOf};
 ghost use Rattle.export.specs.Answers.{Classifies, Affects, Reads, wroteIf};
 use forms::Instruction;
 use lists::State;
-use records::Cursor;
 
 // Classifies the instruction that stands in 177 bytes, and writes its form's eight words.
 #[no_mangle]
@@ -68,7 +67,7 @@ pub extern "C" fn x87_read_record(input: &[u8], at: usize, flat: &mut [u8], out:
 {
     if 177 <= flat.len() {
         if 2 <= out.len() {
-            let t = records::read_record(input, Cursor { at: at });
+            let t = reader::record_at(input, at);
             let o = t.outcome;
             let insn = t.insn;
             let there = answers::is_record(o);
@@ -155,7 +154,7 @@ pub extern "C" fn x87_lift_record(
 {
     if 13 <= state.len() {
         if 2 <= out.len() {
-            let t = records::read_record(input, Cursor { at: at });
+            let t = reader::record_at(input, at);
             let o = t.outcome;
             let insn = t.insn;
             let next = answers::place(o);

@@ -4,8 +4,8 @@ use borrow.Author.Needs.{needs}
 use Rattle.export.proofs.x87_lift_record.Statement.{statement}
 use Rattle.export.proofs.x87_lift_record.Tie as tie
 
-read-record-requires : tie.Need-read-record-requires
-read-record-requires c κs = search needs
+record-at-requires : tie.Need-record-at-requires
+record-at-requires c κs = search needs
 
 place-requires : tie.Need-place-requires
 place-requires c κs = search needs
@@ -33,7 +33,7 @@ same-length-4 c = search needs
 
 returns : tie.Need-returns
 returns c =
-    let t = c .before .before .before .before .before .before .before .before .before .before .before .before .before .before .before .before .before .before .read-record .ensures in
+    let t = c .before .before .before .before .before .before .before .before .before .before .before .before .before .before .before .before .before .before .record-at .ensures in
     rw (← t) (steps-on _ _ _ _ _ _ (c .before .before .before .before .before .before .before .before .before .before .before .before .before .before .before .before .before .before .before .before .if1 .taken) (c .before .before .before .before .before .before .before .before .before .before .before .before .before .before .before .before .before .before .before .if2 .taken) _ _ _ _ _ (sym (c .before .before .before .before .before .before .before .before .before .before .before .before .before .before .before .is-record .ensures) ∙ c .before .before .before .before .before .before .before .before .before .before .before .before .before .before .if3 .taken) (c .before .before .before .before .before .before .before .before .before .before .lift-in .ensures) (rw (← c .before .before .before .before .before .before .before .before .before .before .before .before .before .before .before .before .place .ensures) (c .before .before .tell .ensures)))
 
 slice-aggregate-lay : tie.Need-slice-aggregate-lay
@@ -50,7 +50,7 @@ same-length-5 c = search needs
 
 returns-2 : tie.Need-returns-2
 returns-2 c =
-    let t = c .before .before .before .before .before .before .before .before .before .before .read-record .ensures in
+    let t = c .before .before .before .before .before .before .before .before .before .before .record-at .ensures in
     rw (← t) (stops _ _ _ _ _ _ (c .before .before .before .before .before .before .before .before .before .before .before .before .if1 .taken) (c .before .before .before .before .before .before .before .before .before .before .before .if2 .taken) _ _ (sym (c .before .before .before .before .before .before .before .is-record .ensures) ∙ c .before .before .before .before .before .before .if3 .left) (c .outcome-number .ensures) (rw (← c .before .before .before .before .before .before .before .before .place .ensures) (c .before .before .before .lay .ensures)))
 
 returns-3 : tie.Need-returns-3
@@ -63,7 +63,7 @@ pub x87-lift-record-spec : {M : Type 1} → statement M
 x87-lift-record-spec =
     tie.close
     (tie.spec
-    read-record-requires
+    record-at-requires
     place-requires
     is-record-requires
     lift-in-requires

@@ -3,8 +3,8 @@ use borrow.Author.Needs.{needs}
 use Rattle.export.proofs.x87_read_record.Statement.{statement}
 use Rattle.export.proofs.x87_read_record.Tie as tie
 
-read-record-requires : tie.Need-read-record-requires
-read-record-requires c κs = search needs
+record-at-requires : tie.Need-record-at-requires
+record-at-requires c κs = search needs
 
 is-record-requires : tie.Need-is-record-requires
 is-record-requires c κs = search needs
@@ -39,7 +39,7 @@ returns c =
     let e = d .before .before .before .before in
     let f = e .before .before .before in
     let b = f .before .before .before .before in
-    let t = b .read-record .ensures in
+    let t = b .record-at .ensures in
     let h = is-roomy _ _ (b .before .before .if1 .taken) (b .before .if2 .taken) in
     record {
       told = wrote _ _ _ _ _ _ h (rw t at (c .outcome-number .ensures)) (rw (← t, ← f .before .before .is-record .ensures, ← f .before .place .ensures, ← f .bit .ensures) (e .lay .ensures));
@@ -56,7 +56,7 @@ pub x87-read-record-spec : {M : Type 1} → statement M
 x87-read-record-spec =
     tie.close
     (tie.spec
-    read-record-requires
+    record-at-requires
     is-record-requires
     place-requires
     bit-requires
