@@ -16,3 +16,5 @@ pub mod InWords
 pub mod Applied
 pub mod Image
 pub mod Determined
+pub mod Handed
+pub mod Program

@@ -2,11 +2,11 @@
 use mathlib.Core.Path.{_≡_, refl, sym, _∙_, ap}
 use mathlib.Core.List.{List, [], _∷_, _++_}
 use Prim.Native.Nat.{ℕ, zero, suc, _+_, _*_, _-_, _/_, _%_, _<_, _≤_}
-use native.Mathlib.Nat.{add-zero}
 use native.Mathlib.Numerals.{add-one}
 use native.Mathlib.Omega.{arith}
 use lib.ListN.{length, take, drop, getD, set, length-drop, length-append}
-use lib.Seq.{sets, take-suc, take-suc-set, take-all, getD-drop, length-take-le, length-sets}
+use lib.Seq.{take-suc, take-suc-set, take-all, getD-drop, length-take-le, length-sets}
+use Rattle.lists.proofs.Runs.{sets-append}
 use Rattle.export.specs.Flat.{numberIn, laid, low}
 
 -- a number of four bytes is two of two, and one of eight two of four
@@ -29,13 +29,6 @@ pub copy-end : (s b : List ℕ) (p i : ℕ) → 32 ≤ i → i ≤ 32 → length
 copy-end s b p i h k q e =
     let z : i ≡ 32 = omega arith in
     sym (take-all 32 b (omega arith)) ∙ (rw z at e)
-
--- bytes that are stored one run after the other
-sets-append : (l a b : List ℕ) (i : ℕ) → sets l i (a ++ b) ≡ sets (sets l i a) (i + length a) b
-sets-append l [] b i = rw add-zero
-sets-append l (x ∷ a) b i =
-    let z : i + suc (length a) ≡ suc i + length a = omega arith in
-    rw z (sets-append (set l i x) a b (suc i))
 
 pub laid-none : (l : List ℕ) (p : ℕ) → l ≡ laid l p []
 unfolding laid

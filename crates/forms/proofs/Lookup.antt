@@ -7,7 +7,7 @@ use native.Mathlib.Nat.{pow-suc}
 use native.Mathlib.Numerals.{add-one}
 use native.Mathlib.Omega.{arith}
 use lib.Dec.{eqb, ltb, leb}
-use lib.ListN.{length, drop, getD, drop-of-length-le, List·getD-map, List·getD-eq-default, length-map, length-drop}
+use lib.ListN.{length, drop, getD, drop-of-length-le, List·getD-map, List·getD-eq-default, length-drop}
 use lib.Seq.{drop-cons}
 use borrow.Author.Tests.{eq-eqb, ne-eqb, lt-ltb, lt-leb, le-leb, ltb-true, eqb-true, eqb-false, leb-true}
 use Rattle.texts.specs.Bytes.{all}
@@ -108,10 +108,6 @@ chosen : (t : List ℕ) (n : Name) (ns : List Name) (e : Bool) → sameLetters t
 chosen t n ns true q r = rw q
 chosen t n ns false q r = rw q r
 
-pub names-length : length names ≡ 56
-unfolding names
-names-length = refl
-
 -- the rule of the table, computed: each name has one to eight small letters
 names-rule : all nameIs names ≡ true
 unfolding names
@@ -136,9 +132,6 @@ pub found : (s : List ℕ) (i : ℕ) → i ≡ positionOf (keyOf (trimOf s)) (ma
 unfolding familyOf
 found s i e = rw e (sym (find-position (trimOf s) names names-rule))
 
-pub past : (i : ℕ) → 56 ≤ i → Unknown ≡ getD names i noName .family
-past i h = rw (List·getD-eq-default names noName {n = i} (omega (arith, names-length)))
-
 -- one turn of the search, and its ends
 module _ (l : List ℕ) (x i : ℕ) where
   pub position-on : i < length l → (getD l i 0 ≡ x → ⊥) → i + positionOf x (drop i l) ≡ i + 1 + positionOf x (drop (i + 1) l)
@@ -155,12 +148,20 @@ default [] i d e h = absurd (omega arith)
 default (x ∷ l) zero d e h = refl
 default (x ∷ l) (suc i) d e h = default l i d e (omega arith)
 
--- codes that spell the table's families, one after the other, spell them at each place
-pub code-rule : (codes : List ℕ) → map familyFrom codes ≡ map (λ (n : Name). n .family) names → (i : ℕ) → i < 56 → familyFrom (getD codes i 0) ≡ getD names i noName .family
-code-rule codes e i h =
-    sym (List·getD-map familyFrom codes i 0)
-    ∙ ap (λ (l : List Family). getD l i (familyFrom 0)) e
-    ∙ default (map (λ (n : Name). n .family) names) i (familyFrom 0) Unknown (omega (arith, names-length, length-map names (λ (n : Name). n .family)))
+-- the code beside the place that was found, and the one past the end
+module _ (keys codes : List ℕ) (x i : ℕ) (e : length keys ≡ length codes) (l : i + positionOf x (drop i keys) ≡ positionOf x keys) where
+  pub code-stop : i < length keys → getD keys i 0 ≡ x → getD codes i 0 ≡ getD codes (positionOf x keys) 255
+  code-stop h q = default codes i 0 255 (omega (arith, e)) ∙ rw (← l, position-stop keys x i h q)
+
+  pub code-end : length keys ≤ i → 255 ≡ getD codes (positionOf x keys) 255
+  code-end h = sym (rw (← l, position-end keys x i h) (List·getD-eq-default codes 255 {n = i} (omega (arith, e))))
+
+-- codes that spell the table's families, one after the other, spell them at each place, and 255 past its end
+pub code-rule : (codes : List ℕ) → map familyFrom codes ≡ map (λ (n : Name). n .family) names → (i : ℕ) → familyFrom (getD codes i 255) ≡ getD names i noName .family
+unfolding familyFrom
+code-rule codes e i =
+    sym (List·getD-map familyFrom codes i 255)
+    ∙ ap (λ (l : List Family). getD l i Unknown) e
     ∙ List·getD-map (λ (n : Name). n .family) names i noName
 
 -- the number of a short text is small

@@ -4,7 +4,7 @@ use Prim.Native.Nat.{ℕ, _/_, _%_}
 use lib.Dec.{eqb}
 use Rattle.forms.specs.Names.{X87-ONE, X87-ZERO}
 use Rattle.forms.specs.declared.Family.{Family}
-use Rattle.forms.specs.declared.Family.the-variants.{Plain, Exchange, Load, Store, StatusCompare, PairedCompare, FlagCompare, StoreStatus, ConditionalMove, IntegerArith, IntegerCompare, Arith}
+use Rattle.forms.specs.declared.Family.the-variants.{Plain, Exchange, Load, Store, StatusCompare, PairedCompare, FlagCompare, StoreStatus, ConditionalMove, IntegerArith, IntegerCompare, Arith, Unknown}
 use Rattle.forms.specs.declared.Form.{Form}
 use Rattle.forms.specs.declared.Form.the-variants.{Unary}
 use Rattle.forms.specs.declared.UnaryOp.the-variants.{Abs, Chs, Sqrt, RoundToIntegral}
@@ -67,7 +67,7 @@ arithFrom n = cond (eqb n 0) Add (cond (eqb n 1) Mul (cond (eqb n 2) Sub (cond (
 abbrev pub reversedFrom : ℕ → Bool
 reversedFrom n = eqb n 3 || eqb n 5
 
--- the family with this number, and which of it
+-- the family with this number, and which of it; past the last one, none
 abbrev pub familyAt : ℕ → ℕ → Family
 familyAt f n =
     cond (eqb f 0) (Plain (plainFrom n))
@@ -82,7 +82,8 @@ familyAt f n =
     (cond (eqb f 9) (IntegerArith (arithFrom n) (reversedFrom n))
     (cond (eqb f 10) (IntegerCompare n)
     (cond (eqb f 11) (Arith (arithFrom n) (reversedFrom n) false)
-    (Arith (arithFrom n) (reversedFrom n) true))))))))))))
+    (cond (eqb f 12) (Arith (arithFrom n) (reversedFrom n) true)
+    Unknown))))))))))))
 
 unfoldable pub familyFrom : ℕ → Family
 familyFrom code = familyAt (code / 16) (code % 16)

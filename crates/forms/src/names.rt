@@ -12,8 +12,7 @@ use super::X87Condition;
 use texts::Text;
 ghost use mathlib.Core.Path.{_≡_};
 ghost use mathlib.Core.List.{map};
-ghost use Prim.Native.Nat.{_<_};
-ghost use lib.ListN.{take, getD};
+ghost use lib.ListN.{length, take, getD};
 ghost use Rattle.texts.specs.Bytes.{bytesOf};
 ghost use Rattle.forms.specs.Names.{names, noName, familyOf};
 ghost use Rattle.forms.specs.Keys.{keyOf, nameKey, positionOf};
@@ -139,32 +138,26 @@ const CODES: [u8; 56] = [
     0xc5, // fdivrp
 ];
 
-// Where a number first stands in a list of them, or the list's length.
-fn position(list: &[u64], x: u64) -> usize
-    ensures { λ r. ⌜ r ≡ positionOf x (now (list .entry)) ⌝ }
+// The code beside the first place where a number stands, or 255, which no name has.
+fn code_in(keys: &[u64], codes: &[u8], key: u64) -> u8
+    requires { ⌜ length (now keys) ≡ length (now codes) ⌝ }
+    ensures { λ r. ⌜ r ≡ getD (now (codes .entry)) (positionOf key (now (keys .entry))) 255 ⌝ }
 {
     let mut i = 0;
-    while i < list.len() {
-        if list[i] == x {
-            return i;
+    while i < keys.len() {
+        if keys[i] == key {
+            return codes[i];
         }
         i += 1;
     }
-    i
+    255
 }
 
-// The row of the name with this key, or 56.
-fn row(key: u64) -> usize
-    ensures { λ r. ⌜ r ≡ positionOf key (map nameKey names) ⌝ }
+// The code of the name with this key.
+fn code_of(key: u64) -> u8
+    ensures { λ r. ⌜ familyFrom r ≡ getD names (positionOf key (map nameKey names)) noName .family ⌝ }
 {
-    position(&NAMES, key)
-}
-
-fn code_at(i: usize) -> u8
-    requires { ⌜ i < 56 ⌝ }
-    ensures { λ r. ⌜ familyFrom r ≡ getD names i noName .family ⌝ }
-{
-    CODES[i]
+    code_in(&NAMES, &CODES, key)
 }
 
 // The names that take no operand.
@@ -312,11 +305,12 @@ fn family_from(code: u8) -> Family
             reversed: reversed_from(which),
             pop: false,
         },
-        _ => Family::Arith {
+        12 => Family::Arith {
             op: arith_from(which),
             reversed: reversed_from(which),
             pop: true,
         },
+        _ => Family::Unknown,
     }
 }
 
@@ -346,11 +340,7 @@ fn family(s: &[u8]) -> Family
     ensures { λ r. ⌜ r ≡ familyOf (now (s .entry)) ⌝ }
 {
     let t = texts::trim(s);
-    let i = row(key(t));
-    if i < 56 {
-        return family_from(code_at(i));
-    }
-    Family::Unknown
+    family_from(code_of(key(t)))
 }
 
 fn family_in(b: [u8; 32], n: usize) -> Family

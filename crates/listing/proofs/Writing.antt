@@ -3,23 +3,17 @@ use mathlib.Core.Path.{_≡_, refl, sym, ap, _∙_}
 use mathlib.Core.Bool.{Bool, true, false, cond}
 use mathlib.Core.List.{List, [], _∷_, _++_, append-assoc}
 use Prim.Native.Nat.{ℕ, zero, suc, _+_, _-_, _*_, _/_, _%_, _≤_, _<_}
-use native.Mathlib.Nat.{add-zero}
 use native.Mathlib.Numerals.{add-one}
 use native.Mathlib.Omega.{arith}
 use borrow.Author.Tests.{lt-ltb, le-ltb, le-leb, lt-leb}
 use lib.Dec.{ltb, leb}
 use lib.ListN.{length, getD, take, set, length-append}
-use lib.Seq.{sets, length-sets, set-out, take-suc, take-all}
+use lib.Seq.{length-sets, set-out, take-suc, take-all}
+use Rattle.lists.proofs.Runs.{sets-append}
 use Rattle.lists.specs.declared.State.{State}
 use Rattle.listing.specs.Listing.{Lists, places, stateLine}
 use Rattle.listing.specs.declared.Listed.the-variants.{Bytes, Short}
 use Rattle.listing.specs.Text.{Put, digits, numbers, line, rows}
-
-sets-append : (l a b : List ℕ) (i : ℕ) → sets l i (a ++ b) ≡ sets (sets l i a) (i + length a) b
-sets-append l [] b i = rw add-zero
-sets-append l (x ∷ a) b i =
-    let z : i + suc (length a) ≡ suc i + length a = omega arith in
-    rw z (sets-append (set l i x) a b (suc i))
 
 -- one part, and then another
 module _ {a b : List ℕ} {at p r : ℕ} {l l′ l″ : List ℕ} where

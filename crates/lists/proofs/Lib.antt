@@ -2,3 +2,4 @@ pub mod Sequence
 pub mod Lower
 pub mod Frame
 pub mod Adds
+pub mod Runs
