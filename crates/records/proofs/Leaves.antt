@@ -1,14 +1,13 @@
 -- Laws of bytes and numbers at a place.
-use mathlib.Core.Path.{_≡_, refl, sym, _∙_}
+use mathlib.Core.Path.{_≡_, refl, sym, _∙_, ap}
 use mathlib.Core.List.{List}
-use Prim.Native.Nat.{ℕ, zero, suc, _+_, _*_, _-_, _^_, _<_, _≤_}
-use native.Mathlib.Nat.{pow-succ', pow-le-pow-right}
+use Prim.Native.Nat.{ℕ, zero, suc, _+_, _*_, _^_, _<_, _≤_}
+use native.Mathlib.Nat.{pow-succ', mul-assoc, add-zero, zero-add, suc-add}
 use native.Mathlib.Omega.{arith}
-use mathlib.Core.Bool.{Bool, true, false, cond}
-use lib.Dec.{leb, ltb, lit<}
+use mathlib.Core.Bool.{Bool, true, false}
 use lib.ListN.{length, getD}
-use borrow.Author.Tests.{lt-ltb, le-ltb, le-leb}
-use Rattle.records.specs.Reading.{Reading, Got, Bad, _▹_, byteAt, testedAt, limitedAt, numberAt}
+use borrow.Author.Tests.{lt-ltb, le-ltb}
+use Rattle.records.specs.Reading.{Reading, Got, Bad, _▹_, byteAt, testedAt, numberAt}
 use Rattle.records.specs.Steps.{read, on}
 use Rattle.records.specs.declared.Next.{Next}
 use Rattle.records.specs.declared.Next.the-variants.{At, Stop}
@@ -34,37 +33,57 @@ pub stays : {A : Type 0} (v : A) (x : Next) (r : Refusal) (p : ℕ) (f : ℕ →
 unfolding read on
 stays v x r p f e = rw e
 
-all-within : (t : Bool) (b n p at : ℕ) (q r : Refusal) → b < 256 → (cond t (Got b n) (Bad q p) ▹ λ b n. cond (leb b 255) (Got b n) (Bad r at)) ≡ cond t (Got b n) (Bad q p)
-all-within true b n p at q r h = rw (le-leb b 255 (omega arith))
-all-within false b n p at q r h = refl
+-- both bytes of two are there, or the input ends before the second
+module _ (s : List ℕ) (x : Next) (at : ℕ) (q : x ≡ At at) where
+  pub two-on : at < length s → at + 1 < length s → read (getD s at 0 + 256 * getD s (at + 1) 0) (At (at + 2)) ≡ on x (numberAt 2 s)
+  unfolding byteAt numberAt read on
+  two-on h k =
+      let e : at + 1 + 1 ≡ at + 2 = omega arith in
+      rw (q, lt-ltb _ _ h, lt-ltb _ _ k, e, add-zero)
 
--- any byte is at most 255
-pub byte-all : (s : List ℕ) (x : Next) (r : Refusal) → ((k : ℕ) → getD s k 0 < 256) → on x (limitedAt 255 r s) ≡ on x (byteAt s)
-unfolding byteAt testedAt on
-byte-all s (At n) r h = all-within (ltb n (length s)) (getD s n 0) (n + 1) (length s) n Short r (h n)
-byte-all s (Stop q p) r h = refl
+  pub two-half : (v : ℕ) → at < length s → length s ≤ at + 1 → read v (Stop Short (length s)) ≡ on x (numberAt 2 s)
+  unfolding byteAt numberAt read on
+  two-half v h k = rw (q, lt-ltb _ _ h, le-ltb _ _ k)
 
-pub number-none : (s : List ℕ) (x : Next) (n : ℕ) → n ≡ 0 → read 0 x ≡ on x (numberAt n s)
+  pub two-end : (v : ℕ) → length s ≤ at → read v (Stop Short (length s)) ≡ on x (numberAt 2 s)
+  unfolding byteAt numberAt read on
+  two-end v h = rw (q, le-ltb _ _ h)
+
+-- a number of m bytes and then one of n are one of both
+module _ (m n : ℕ) (s : List ℕ) where
+  abbrev behind : ℕ → ℕ → ℕ → Reading ℕ
+  behind k a p = numberAt n s p ▹ λ b e. Got (a + 256 ^ k * b) e
+
+  high : (a b : ℕ) (r : Reading ℕ) → ((r ▹ λ c e. Got (a + 256 ^ m * c) e) ▹ λ v e. Got (b + 256 * v) e) ≡ (r ▹ λ c e. Got (b + 256 * a + 256 ^ suc m * c) e)
+  high a b (Bad r p) = refl
+  high a b (Got c e) = rw (pow-succ' 256 m, mul-assoc) (ap (λ (v : ℕ). Got v e) (omega arith))
+
+  low : (b : ℕ) (r : Reading ℕ) → ((r ▹ behind m) ▹ λ v e. Got (b + 256 * v) e) ≡ ((r ▹ λ v e. Got (b + 256 * v) e) ▹ behind (suc m))
+  low b (Bad r p) = refl
+  low b (Got a p) = high a b (numberAt n s p)
+
+  first : ((p : ℕ) → numberAt (m + n) s p ≡ (numberAt m s p ▹ behind m)) → (r : Reading ℕ)
+      → (r ▹ λ b p. numberAt (m + n) s p ▹ λ v e. Got (b + 256 * v) e) ≡ ((r ▹ λ b p. numberAt m s p ▹ λ v e. Got (b + 256 * v) e) ▹ behind (suc m))
+  first h (Bad r p) = refl
+  first h (Got b p) = rw (h p) (low b (numberAt m s p))
+
+whole : (r : Reading ℕ) → r ≡ (r ▹ λ b e. Got (0 + 256 ^ 0 * b) e)
+whole (Bad r p) = refl
+whole (Got b e) = ap (λ (v : ℕ). Got v e) (omega arith)
+
+joined : (m n : ℕ) (s : List ℕ) (p : ℕ) → numberAt (m + n) s p ≡ (numberAt m s p ▹ behind m n s m)
 unfolding numberAt
-number-none s x n e = rw e (sym (on-got x 0))
+joined zero n s p = rw zero-add (whole (numberAt n s p))
+joined (suc m) n s p = rw suc-add (first m n s (joined m n s) (byteAt s p))
 
-pub number-more : (s : List ℕ) (x y z : Next) (n b v : ℕ) → (n ≡ 0 → ⊥)
-    → read b y ≡ on x (byteAt s) → read v z ≡ on y (numberAt (n - 1) s) → read (b + 256 * v) z ≡ on x (numberAt n s)
-unfolding numberAt
-number-more s x y z zero b v h p q = absurd (h refl)
-number-more s x y z (suc k) b v h p q =
-    let e : suc k - 1 ≡ k = omega arith in
-    sym (then (λ b n. numberAt k s n ▹ λ v n. Got (b + 256 * v) n) x y b (byteAt s) p
-    ∙ then (λ v n. Got (b + 256 * v) n) y z v (numberAt k s) (rw e at q)
-    ∙ on-got z (b + 256 * v))
+on-each : (x : Next) (f g : ℕ → Reading ℕ) → ((n : ℕ) → f n ≡ g n) → on x f ≡ on x g
+unfolding on
+on-each (At n) f g h = h n
+on-each (Stop r p) f g h = refl
 
-pub number-less : (n b v : ℕ) → (n ≡ 0 → ⊥) → b < 256 → v < 256 ^ (n - 1) → b + 256 * v < 256 ^ n
-number-less zero b v h p q = absurd (h refl)
-number-less (suc k) b v h p q =
-    let e : suc k - 1 ≡ k = omega arith in
-    let l : v < 256 ^ k = rw e at q in
-    rw (pow-succ' 256 k) (omega arith)
-
--- a number of at most 8 bytes fits a word
-pub number-fits : (n b v : ℕ) → n ≤ 8 → (n ≡ 0 → ⊥) → b < 256 → v < 256 ^ (n - 1) → b + 256 * v < 2 ^ 64
-number-fits n b v k h p q = omega (arith, pow-le-pow-right {n = 256} (lit< tt) {i = n} {j = 8} k, number-less n b v h p q)
+pub number-joins : (m n : ℕ) (s : List ℕ) (x y z : Next) (a b : ℕ) → read a y ≡ on x (numberAt m s) → read b z ≡ on y (numberAt n s) → read (a + 256 ^ m * b) z ≡ on x (numberAt (m + n) s)
+number-joins m n s x y z a b p q =
+    sym (on-each x (numberAt (m + n) s) (λ k. numberAt m s k ▹ behind m n s m) (joined m n s)
+    ∙ then (behind m n s m) x y a (numberAt m s) p
+    ∙ then (λ b e. Got (a + 256 ^ m * b) e) y z b (numberAt n s) q
+    ∙ on-got z (a + 256 ^ m * b))

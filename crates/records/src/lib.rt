@@ -2,7 +2,7 @@
 ghost use mathlib.Core.Path.{_≡_};
 ghost use Prim.Native.Nat.{_^_, _<_, _≤_};
 ghost use lib.ListN.{length};
-ghost use Rattle.records.specs.Reading.{byteAt, limitedAt, eitherAt, numberAt};
+ghost use Rattle.records.specs.Reading.{limitedAt, eitherAt, numberAt};
 ghost use Rattle.records.specs.Format.{noText, noOperand, noInstruction, textAt, registerAt, memoryAt, operandAt, presentAt, recordAt, endAt, answer, took, takenAt};
 ghost use Rattle.records.specs.Numbers.{refusalOf};
 ghost use Rattle.records.specs.Steps.{read, on};
@@ -111,13 +111,6 @@ fn limited(s: &[u8], from: Next, most: u8, refusal: Refusal) -> ByteRead
     short(s)
 }
 
-// One byte.
-fn byte(s: &[u8], from: Next) -> ByteRead
-    ensures { λ r. ⌜ (read (r .value) (r .next) ≡ on from (byteAt (now (s .entry)))) × (r .value < 256) ⌝ }
-{
-    limited(s, from, 255, Refusal::Short)
-}
-
 // One byte that is `x` or `y`.
 fn either(s: &[u8], from: Next, x: u8, y: u8) -> ByteRead
     ensures { λ r. ⌜ read (r .value) (r .next) ≡ on from (eitherAt x y (now (s .entry))) ⌝ }
@@ -144,23 +137,52 @@ fn either(s: &[u8], from: Next, x: u8, y: u8) -> ByteRead
     short(s)
 }
 
-// A number of `n` bytes, low byte first.
-fn number(s: &[u8], from: Next, n: usize) -> NumberRead
-    requires { ⌜ n ≤ 8 ⌝ }
-    ensures { λ r. ⌜ (read (r .value) (r .next) ≡ on from (numberAt n (now (s .entry)))) × (r .value < 256 ^ n) ⌝ }
+// A number of two bytes, low byte first; of four; of eight.
+fn two(s: &[u8], from: Next) -> NumberRead
+    ensures { λ r. ⌜ (read (r .value) (r .next) ≡ on from (numberAt 2 (now (s .entry)))) × (r .value < 256 ^ 2) ⌝ }
 {
-    if n == 0 {
+    let Next::At(at) = from else {
         return NumberRead {
             value: 0,
             next: from,
         };
+    };
+    if at < s.len() {
+        if at + 1 < s.len() {
+            return NumberRead {
+                value: s[at] as u64 + 256 * (s[at + 1] as u64),
+                next: Next::At(at + 2),
+            };
+        }
     }
-    let b = byte(s, from);
-    let after = b.next;
-    let r = number(s, after, n - 1);
-    let next = r.next;
     NumberRead {
-        value: b.value as u64 + 256 * r.value,
+        value: 0,
+        next: Next::Stop(Refusal::Short, s.len()),
+    }
+}
+
+fn four(s: &[u8], from: Next) -> NumberRead
+    ensures { λ r. ⌜ (read (r .value) (r .next) ≡ on from (numberAt 4 (now (s .entry)))) × (r .value < 256 ^ 4) ⌝ }
+{
+    let low = two(s, from);
+    let between = low.next;
+    let high = two(s, between);
+    let next = high.next;
+    NumberRead {
+        value: low.value + 65536 * high.value,
+        next: next,
+    }
+}
+
+fn eight(s: &[u8], from: Next) -> NumberRead
+    ensures { λ r. ⌜ read (r .value) (r .next) ≡ on from (numberAt 8 (now (s .entry))) ⌝ }
+{
+    let low = four(s, from);
+    let between = low.next;
+    let high = four(s, between);
+    let next = high.next;
+    NumberRead {
+        value: low.value + 4294967296 * high.value,
         next: next,
     }
 }
@@ -251,13 +273,13 @@ fn register(s: &[u8], from: Next) -> OperandRead
 fn memory(s: &[u8], from: Next) -> OperandRead
     ensures { λ r. ⌜ read (r .operand) (r .next) ≡ on from (memoryAt (now (s .entry))) ⌝ }
 {
-    let w = number(s, from, 2);
+    let w = two(s, from);
     let x = w.next;
     let k = limited(s, x, 1, Refusal::BadOperand);
     let y = k.next;
-    let a = number(s, y, 4);
+    let a = four(s, y);
     let z = a.next;
-    let t = number(s, z, 4);
+    let t = four(s, z);
     let next = t.next;
     let none = no_text();
     OperandRead {
@@ -336,7 +358,7 @@ fn finish(from: Next, insn: Instruction) -> Taken
 fn record(s: &[u8], from: Next) -> Taken
     ensures { λ r. ⌜ r ≡ answer (on from (recordAt (now (s .entry)))) ⌝ }
 {
-    let a = number(s, from, 8);
+    let a = eight(s, from);
     let n1 = a.next;
     let m = text(s, n1);
     let n2 = m.next;

@@ -5,17 +5,17 @@ use borrow.Author.Needs.{needs}
 use Rattle.records.proofs.memory.Statement.{statement}
 use Rattle.records.proofs.memory.Tie as tie
 
-number-requires : tie.Need-number-requires
-number-requires c κs = search needs
+two-requires : tie.Need-two-requires
+two-requires c κs = search needs
 
 limited-requires : tie.Need-limited-requires
 limited-requires c κs = search needs
 
-number-requires-2 : tie.Need-number-requires-2
-number-requires-2 c κs = search needs
+four-requires : tie.Need-four-requires
+four-requires c κs = search needs
 
-number-requires-3 : tie.Need-number-requires-3
-number-requires-3 c κs = search needs
+four-requires-2 : tie.Need-four-requires-2
+four-requires-2 c κs = search needs
 
 no-text-requires : tie.Need-no-text-requires
 no-text-requires c κs = search needs
@@ -33,20 +33,20 @@ returns : tie.Need-returns
 unfolding memoryAt
 returns c =
     let b = c .before .before .before in
-    rw (b .no-text .ensures) (sym (then _ _ _ _ _ (b .before .before .before .before .number .ensures .0)
+    rw (b .no-text .ensures) (sym (then _ _ _ _ _ (b .before .before .before .before .two .ensures .0)
     ∙ then _ _ _ _ _ (b .before .before .before .limited .ensures .0)
-    ∙ then _ _ _ _ _ (b .before .before .number2 .ensures .0)
-    ∙ then _ _ _ _ _ (b .before .number3 .ensures .0)
+    ∙ then _ _ _ _ _ (b .before .before .four .ensures .0)
+    ∙ then _ _ _ _ _ (b .before .four2 .ensures .0)
     ∙ on-got _ _))
 
 pub memory-spec : {M : Type 1} → statement M
 memory-spec =
     tie.close
     (tie.spec
-    number-requires
+    two-requires
     limited-requires
-    number-requires-2
-    number-requires-3
+    four-requires
+    four-requires-2
     no-text-requires
     cast-t13
     cast-t14

@@ -5,8 +5,8 @@ use borrow.Author.Needs.{needs}
 use Rattle.records.proofs.record.Statement.{statement}
 use Rattle.records.proofs.record.Tie as tie
 
-number-requires : tie.Need-number-requires
-number-requires c κs = search needs
+eight-requires : tie.Need-eight-requires
+eight-requires c κs = search needs
 
 text-requires : tie.Need-text-requires
 text-requires c κs = search needs
@@ -34,7 +34,7 @@ unfolding recordAt
 returns c =
     let b = c .before .before .before .before .before .before in
     let d = b .before .before .before .before in
-    c .finish .ensures ∙ ap answer (sym (then _ _ _ _ _ (d .before .before .before .before .number .ensures .0)
+    c .finish .ensures ∙ ap answer (sym (then _ _ _ _ _ (d .before .before .before .before .eight .ensures)
     ∙ then _ _ _ _ _ (d .before .before .before .text .ensures)
     ∙ then _ _ _ _ _ (d .before .before .limited .ensures .0)
     ∙ then _ _ _ _ _ (d .present .ensures)
@@ -45,7 +45,7 @@ pub record-spec : {M : Type 1} → statement M
 record-spec =
     tie.close
     (tie.spec
-    number-requires
+    eight-requires
     text-requires
     limited-requires
     present-requires

@@ -1,7 +1,8 @@
 //! `bench [SECONDS]`: instructions per second of the Rust, with its real
 //! trees, and of the static library, in the same run on the same
-//! well-formed sequences; and the library's cost per instruction as the
-//! node list grows.
+//! well-formed sequences: by `x87_lift`, on the instructions' 177 bytes,
+//! and by `x87_lift_record`, on their records; and the library's cost per
+//! instruction as the node list grows.
 //!
 //! Both sides get their instructions ready made, print nothing, and start
 //! each sequence from a fresh state. The lent lists are not cleared.
@@ -41,6 +42,7 @@ mod measured {
     use plain::state::{DEPTH, NODES, ROW, STATE, STATEMENTS};
     use plain::{FLAT, Instruction, MODELLED};
     use r2smt_common::program;
+    use sleetgate_sys::READ;
 
     /// Sequences of a family, and instructions of each.
     const SEQUENCES: usize = 1_000;
@@ -76,6 +78,7 @@ mod measured {
     struct Work {
         rust: Vec<Vec<program::Instruction>>,
         rattle: Vec<Vec<[u8; FLAT]>>,
+        records: Vec<Vec<u8>>,
         instructions: usize,
     }
 
@@ -85,9 +88,13 @@ mod measured {
             let rattle = sequences
                 .iter()
                 .map(|s| s.iter().map(Instruction::to_flat).collect());
+            let records = sequences
+                .iter()
+                .map(|s| s.iter().flat_map(plain::record).collect());
             Self {
                 rust: rust.collect(),
                 rattle: rattle.collect(),
+                records: records.collect(),
                 instructions: sequences.iter().map(Vec::len).sum(),
             }
         }
@@ -110,13 +117,23 @@ mod measured {
         fn lift(&mut self, flat: &[u8; FLAT], state: &mut [u64; STATE]) -> u32 {
             sleetgate_sys::lift(flat, state, &mut self.nodes, &mut self.statements)
         }
+
+        /// Lift the record at a place, and give the next place.
+        fn lift_record(&mut self, input: &[u8], at: usize, state: &mut [u64; STATE]) -> usize {
+            let (nodes, statements) = (&mut self.nodes, &mut self.statements);
+            let mut told = [0; READ];
+            let answer =
+                sleetgate_sys::lift_record(input, at, state, nodes, statements, &mut told);
+            assert_eq!((answer, told[1]), (MODELLED, 1));
+            usize::try_from(told[0]).expect("a place")
+        }
     }
 
     pub fn all(seconds: f64) {
         let mut rng = Rng::new(87);
         println!(
-            "{:<16} {:>14} {:>14} {:>7}",
-            "instructions/s", "Rust", "Rattle", "ratio"
+            "{:<16} {:>14} {:>14} {:>7} {:>14} {:>7}",
+            "instructions/s", "Rust", "177 bytes", "ratio", "records", "ratio"
         );
         for (form, name) in (1_u64..).zip(FORMS) {
             let sequences: Vec<_> = (0..SEQUENCES).map(|_| family(&mut rng, form)).collect();
@@ -189,18 +206,22 @@ mod measured {
         usize::try_from(state[DEPTH]).expect("at most 8")
     }
 
-    /// Measure both sides in turn, and print the middle of each.
+    /// Measure the sides in turn, and print the middle of each.
     fn compare(name: &str, work: &Work, seconds: f64) {
         let share = seconds / ROUNDS as f64;
-        let (mut rust, mut rattle) = (Vec::new(), Vec::new());
+        let (mut rust, mut rattle, mut records) = (Vec::new(), Vec::new(), Vec::new());
         let mut lists = Lists::new();
         for _ in 0..ROUNDS {
             rust.push(rate(work, share, || rust_pass(work)));
             rattle.push(rate(work, share, || rattle_pass(work, &mut lists)));
+            records.push(rate(work, share, || records_pass(work, &mut lists)));
         }
-        let (rust, rattle) = (middle(rust), middle(rattle));
-        let ratio = rattle / rust;
-        println!("{name:<16} {rust:>14.0} {rattle:>14.0} {ratio:>7.2}");
+        let (rust, rattle, records) = (middle(rust), middle(rattle), middle(records));
+        let ratios = (rattle / rust, records / rust);
+        println!(
+            "{name:<16} {rust:>14.0} {rattle:>14.0} {:>7.2} {records:>14.0} {:>7.2}",
+            ratios.0, ratios.1
+        );
     }
 
     fn middle(mut rates: Vec<f64>) -> f64 {
@@ -235,6 +256,17 @@ mod measured {
             for flat in sequence {
                 let answer = lists.lift(black_box(flat), &mut state);
                 assert_eq!(answer, MODELLED);
+            }
+            black_box(&state);
+        }
+    }
+
+    fn records_pass(work: &Work, lists: &mut Lists) {
+        for input in &work.records {
+            let mut state = [0; STATE];
+            let mut at = 0;
+            while at < input.len() {
+                at = lists.lift_record(black_box(input), at, &mut state);
             }
             black_box(&state);
         }
