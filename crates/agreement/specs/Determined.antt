@@ -63,6 +63,7 @@ use Rattle.listing.specs.Run.{Ran, Runs, runOf}
 use Rattle.listing.specs.Listing.{Lists, textOf}
 use Rattle.listing.specs.declared.Stop.{Stop}
 use Rattle.listing.specs.declared.Listed.{Listed}
+use Rattle.words.specs.Bytes.{numberIn}
 use Rattle.words.specs.Wide as words
 use Rattle.words.specs.Wide.{val, wideOf, wide-val}
 use Rattle.words.specs.declared.Wide.{Wide}
@@ -101,6 +102,10 @@ Determined₄ {A} P =
 -- One law for each shape of promise: an equation, and the records of equations
 one : {A : Type 0} {x : A} → Determined (λ (r : A). r ≡ x)
 one r s p q = p ∙ sym q
+
+-- .. that also says how large it can be
+within : {x n : ℕ} → Determined (λ (r : ℕ). (r ≡ x) × (r < n))
+within r s p q = p .0 ∙ sym (q .0)
 
 both : {A : Type 0} {x : A} {y : List ℕ} → Determined₁ (λ (r : A) l. (r ≡ x) × (l ≡ y))
 both r s l m p q = (p .0 ∙ sym (q .0), p .1 ∙ sym (q .1))
@@ -500,6 +505,15 @@ words·eq x y = one
 
 pub words·fits : (x : Wide) (k : ℕ) → Determined (λ (r : Bool). r ≡ ltb (val x) (2 ^ k))
 words·fits x k = one
+
+pub words·two : (s : List ℕ) (at : ℕ) → Determined (λ (r : ℕ). (r ≡ numberIn s at 2) × (r < 65536))
+words·two s at = within
+
+pub words·four : (s : List ℕ) (at : ℕ) → Determined (λ (r : ℕ). (r ≡ numberIn s at 4) × (r < 4294967296))
+words·four s at = within
+
+pub words·eight : (s : List ℕ) (at : ℕ) → Determined (λ (r : ℕ). r ≡ numberIn s at 8)
+words·eight s at = one
 
 -- image
 

@@ -1,24 +1,13 @@
--- Laws of numbers and bytes that stand at a place, read and written.
+-- Laws of bytes that stand at a place, read and written.
 use mathlib.Core.Path.{_≡_, refl, sym, _∙_, ap}
 use mathlib.Core.List.{List, [], _∷_, _++_}
-use Prim.Native.Nat.{ℕ, zero, suc, _+_, _*_, _-_, _/_, _%_, _<_, _≤_}
+use Prim.Native.Nat.{ℕ, zero, suc, _+_, _-_, _/_, _%_, _<_, _≤_}
 use native.Mathlib.Numerals.{add-one}
 use native.Mathlib.Omega.{arith}
 use lib.ListN.{length, take, drop, getD, set, length-drop, length-append}
 use lib.Seq.{take-suc, take-suc-set, take-all, getD-drop, length-take-le, length-sets}
 use Rattle.lists.proofs.Runs.{sets-append}
-use Rattle.export.specs.Flat.{numberIn, laid, low}
-
--- a number of four bytes is two of two, and one of eight two of four
-pub four-bytes : (l : List ℕ) (p a b : ℕ) → a ≡ numberIn l p 2 → b ≡ numberIn l (p + 2) 2 → a + 65536 * b ≡ numberIn l p 4
-four-bytes l p a b e f =
-    let q : p + 1 + 1 ≡ p + 2 = omega arith in
-    rw (e, f, q) (omega arith)
-
-pub eight-bytes : (l : List ℕ) (p a b : ℕ) → a ≡ numberIn l p 4 → b ≡ numberIn l (p + 4) 4 → a + 4294967296 * b ≡ numberIn l p 8
-eight-bytes l p a b e f =
-    let q : p + 1 + 1 + 1 + 1 ≡ p + 4 = omega arith in
-    rw (e, f, q) (omega arith)
+use Rattle.export.specs.Flat.{laid, low}
 
 pub copy-on : (s b : List ℕ) (p i : ℕ) → p + i < length s → i < length b → take i b ≡ take i (drop p s) → take (i + 1) (set b i (getD s (p + i) 0)) ≡ take (i + 1) (drop p s)
 copy-on s b p i h k e =

@@ -1,16 +1,12 @@
 -- The flat layout of an instruction: 177 bytes, low byte first. Address 0 to 8; mnemonic length at 8, its text 9 to 41; operand count at 41; three operands at 42, 87 and 132.
 use mathlib.Core.List.{List, [], _∷_, _++_}
-use Prim.Native.Nat.{ℕ, zero, suc, _+_, _*_, _/_, _%_}
+use Prim.Native.Nat.{ℕ, zero, suc, _+_, _/_, _%_}
 use lib.ListN.{take, drop, getD}
 use lib.Seq.{sets}
+use Rattle.words.specs.Bytes.{numberIn}
 use Rattle.texts.specs.declared.Text.{Text}
 use Rattle.forms.specs.declared.Operand.{Operand}
 use Rattle.forms.specs.declared.Instruction.{Instruction}
-
--- the number of n bytes at a place
-abbrev pub numberIn : List ℕ → ℕ → ℕ → ℕ
-numberIn l p zero = 0
-numberIn l p (suc n) = getD l p 0 + 256 * numberIn l (p + 1) n
 
 -- a length, then 32 bytes
 abbrev pub textIn : List ℕ → ℕ → Text

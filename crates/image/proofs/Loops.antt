@@ -1,38 +1,20 @@
--- One turn of each loop over an image's bytes.
+-- The number in an image's bytes, and one turn of the loop that stores them.
 use mathlib.Core.List.{List, [], _++_, append-assoc, append-nil}
-use mathlib.Core.Path.{_≡_, sym, subst, _∙_, ap}
-use Prim.Native.Nat.{ℕ, suc, _+_, _-_, _*_, _/_, _%_, _^_, _≤_, _<_}
-use native.Mathlib.Nat.{mod-eq-of-lt, lt-of-lt-of-le}
+use mathlib.Core.Path.{_≡_, refl, sym, _∙_, ap}
+use Prim.Native.Nat.{ℕ, zero, suc, _+_, _-_, _/_, _%_, _^_, _≤_, _<_}
 use native.Mathlib.Numerals.{add-one}
 use native.Mathlib.Omega.{arith}
-use lib.Arith.{digits-lt}
-use lib.ListN.{length, take, drop, set, getD, take-append-drop}
-use lib.Pow.{pow-add, pow-mono}
-use lib.Seq.{drop-cons, getD-take, length-take-le, take-suc-set, drop-set-lt, drop-drop}
+use lib.ListN.{length, take, drop, set, take-append-drop}
+use lib.Seq.{drop-cons, take-suc-set, drop-set-lt, drop-drop}
+use Rattle.words.specs.Bytes.{numberIn}
 use Rattle.image.specs.Bytes.{littleEndian, bytesOf}
 
-module _ (image : List ℕ) (i v b w : ℕ) (long : 10 ≤ length image) (at : i < 10) (byte : b < 2 ^ 8) (small : v < 2 ^ (8 * (10 - (i + 1)))) (joined : w ≡ (v * 2 ^ 8 + b % 2 ^ 8) % 2 ^ 128) where
-  -- the number with one more byte below it still has its bits
-  pub more-small : v * 2 ^ 8 + b < 2 ^ (8 * (10 - i))
-  more-small =
-      let e : 8 * (10 - (i + 1)) + 8 ≡ 8 * (10 - i) = omega arith in
-      subst (λ (n : ℕ). v * 2 ^ 8 + b < n) (sym (pow-add 2 (8 * (10 - (i + 1))) 8) ∙ ap (λ (n : ℕ). 2 ^ n) e) (digits-lt small byte)
-
-  plain : w ≡ v * 2 ^ 8 + b
-  plain =
-      let h : 8 * (10 - i) ≤ 128 = omega arith in
-      joined ∙ rw (mod-eq-of-lt byte) (mod-eq-of-lt (lt-of-lt-of-le more-small (pow-mono {i = 8 * (10 - i)} {j = 128} h)))
-
-  pub number-small : w < 2 ^ (8 * (10 - i))
-  number-small = rw plain more-small
-
-  pub number-more : v ≡ littleEndian (drop (i + 1) (take 10 image)) → b ≡ getD image i 0 → w ≡ littleEndian (drop i (take 10 image))
-  unfolding littleEndian
-  number-more e q =
-      let h : i < length (take 10 image) = omega (arith, length-take-le 10 image long) in
-      let g : b ≡ getD (take 10 image) i 0 = q ∙ sym (getD-take 10 image i 0 at) in
-      let d : drop (suc i) (take 10 image) ≡ drop (i + 1) (take 10 image) = ap (λ (n : ℕ). drop n (take 10 image)) (sym (add-one i)) in
-      rw (drop-cons (take 10 image) i 0 h, d, ← g, ← e) plain
+-- the number of n bytes at a place
+pub in-bytes : (s : List ℕ) (n p : ℕ) → p + n ≤ length s → numberIn s p n ≡ littleEndian (take n (drop p s))
+unfolding littleEndian
+in-bytes s zero p h = refl
+in-bytes s (suc n) p h =
+    rw (drop-cons s p 0 (omega arith), ← add-one p, ← in-bytes s n (p + 1) (omega arith)) (omega arith)
 
 -- a byte stored, and the rest of the number behind it
 pub put-more : (image : List ℕ) (i v : ℕ) → i < 10 → i < length image

@@ -60,25 +60,14 @@ fn pattern(v: Wide, free: Wide) -> Wide
     }
 }
 
-fn wide(b: u8) -> u64
-    ensures { λ r. ⌜ r ≡ b ⌝ }
-{
-    b as u64
-}
-
 // The number of ten bytes.
 fn number(image: &[u8]) -> Wide
     requires { ⌜ 10 ≤ length (now image) ⌝ }
     ensures { λ r. ⌜ val r ≡ littleEndian (take 10 (now (image .entry))) ⌝ }
 {
-    let mut v = Wide { lo: 0, hi: 0 };
-    let mut i = 10;
-    while 0 < i {
-        i -= 1;
-        let b = wide(image[i]);
-        v = words::concat(v, Wide { lo: b, hi: 0 }, 8);
-    }
-    v
+    let lo = words::bytes::eight(image, 0);
+    let hi = words::bytes::two(image, 8);
+    Wide { lo, hi }
 }
 
 // The low byte.

@@ -2,11 +2,12 @@
 use mathlib.Core.Path.{_≡_, refl, sym, _∙_, ap}
 use mathlib.Core.List.{List}
 use Prim.Native.Nat.{ℕ, zero, suc, _+_, _*_, _^_, _<_, _≤_}
-use native.Mathlib.Nat.{pow-succ', mul-assoc, add-zero, zero-add, suc-add}
+use native.Mathlib.Nat.{pow-succ', mul-assoc, zero-add, suc-add}
 use native.Mathlib.Omega.{arith}
 use mathlib.Core.Bool.{Bool, true, false}
 use lib.ListN.{length, getD}
 use borrow.Author.Tests.{lt-ltb, le-ltb}
+use Rattle.words.specs.Bytes.{numberIn}
 use Rattle.records.specs.Reading.{Reading, Got, Bad, _▹_, byteAt, testedAt, numberAt}
 use Rattle.records.specs.Steps.{read, on}
 use Rattle.records.specs.declared.Next.{Next}
@@ -35,11 +36,11 @@ stays v x r p f e = rw e
 
 -- both bytes of two are there, or the input ends before the second
 module _ (s : List ℕ) (x : Next) (at : ℕ) (q : x ≡ At at) where
-  pub two-on : at < length s → at + 1 < length s → read (getD s at 0 + 256 * getD s (at + 1) 0) (At (at + 2)) ≡ on x (numberAt 2 s)
+  pub two-on : at < length s → at + 1 < length s → read (numberIn s at 2) (At (at + 2)) ≡ on x (numberAt 2 s)
   unfolding byteAt numberAt read on
   two-on h k =
       let e : at + 1 + 1 ≡ at + 2 = omega arith in
-      rw (q, lt-ltb _ _ h, lt-ltb _ _ k, e, add-zero)
+      rw (q, lt-ltb _ _ h, lt-ltb _ _ k, e)
 
   pub two-half : (v : ℕ) → at < length s → length s ≤ at + 1 → read v (Stop Short (length s)) ≡ on x (numberAt 2 s)
   unfolding byteAt numberAt read on

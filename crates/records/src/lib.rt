@@ -150,7 +150,7 @@ fn two(s: &[u8], from: Next) -> NumberRead
     if at < s.len() {
         if at + 1 < s.len() {
             return NumberRead {
-                value: s[at] as u64 + 256 * (s[at + 1] as u64),
+                value: words::bytes::two(s, at),
                 next: Next::At(at + 2),
             };
         }

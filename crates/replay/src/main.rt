@@ -28,33 +28,11 @@ fn wide(b: u8) -> u64
     b as u64
 }
 
-// The number that two bytes at a place make, low byte first.
+// The number that two bytes at a place make.
 fn two(s: &[u8], at: usize) -> usize
-    requires { ⌜ at + 2 ≤ length (now s) ⌝ }
     ensures { λ r. ⌜ r < 65536 ⌝ }
 {
-    let low = wide(s[at]);
-    let high = wide(s[at + 1]);
-    (low + 256 * high) as usize
-}
-
-// The number that four bytes at a place make, low byte first.
-fn four(s: &[u8], at: usize) -> u64
-    requires { ⌜ at + 4 ≤ length (now s) ⌝ }
-    ensures { λ r. ⌜ r < 4294967296 ⌝ }
-{
-    let low = two(s, at);
-    let high = two(s, at + 2);
-    (low + 65536 * high) as u64
-}
-
-// The word that eight bytes at a place make, low byte first.
-fn eight(s: &[u8], at: usize) -> u64
-    requires { ⌜ at + 8 ≤ length (now s) ⌝ }
-{
-    let low = four(s, at);
-    let high = four(s, at + 4);
-    low + 4294967296 * high
+    words::bytes::two(s, at) as usize
 }
 
 // The words that bytes make, eight for each, as many as there are of both.
@@ -64,7 +42,7 @@ fn load(w: &mut [u64], s: &[u8]) {
         if s.len() / 8 <= i {
             return;
         }
-        w[i] = eight(s, 8 * i);
+        w[i] = words::bytes::eight(s, 8 * i);
         i += 1;
     }
 }
@@ -181,7 +159,7 @@ fn state_before(head: &[u8]) -> [u64; 13]
     let mut w = [0u64; 13];
     let mut i = 0;
     while i < 13 {
-        w[i] = four(head, 4 * i);
+        w[i] = words::bytes::four(head, 4 * i);
         i += 1;
     }
     w
@@ -192,8 +170,8 @@ fn lists_equal(head: &[u8], tail: &[u8], nodes: &[u64; 4096], statements: &[u64;
     requires { ⌜ length (now head) ≡ 288 ⌝ }
 {
     let split = 32 * wide(head[286]) as usize;
-    let first = 4 * four(head, 36) as usize;
-    let second = 4 * four(head, 40) as usize;
+    let first = 4 * words::bytes::four(head, 36) as usize;
+    let second = 4 * words::bytes::four(head, 40) as usize;
     if tail.len() < split {
         return false;
     }
@@ -308,8 +286,8 @@ fn image_equal(head: &[u8]) -> bool
     let mut image = [0u8; 10];
     let answer = export::values::x87_image_read(
         &head[0..10],
-        eight(head, 10),
-        eight(head, 18),
+        words::bytes::eight(head, 10),
+        words::bytes::eight(head, 18),
         &mut out,
     );
     export::values::x87_image_write(&mut image, out[0], out[1]);

@@ -1,3 +1,4 @@
 pub mod Shifts
 pub mod Masks
 pub mod Orders
+pub mod Places

@@ -1,2 +1,3 @@
 pub mod Wide
 pub mod Tests
+pub mod Bytes

@@ -1,4 +1,6 @@
 // Numbers of up to 128 bits in two words. Each promise is on the number that the words hold.
+pub mod bytes;
+
 ghost use mathlib.Core.Path.{_≡_};
 ghost use Prim.Native.Nat.{ℕ, _*_, _/_, _%_, _^_};
 ghost use lib.Bits.{bitAnd, bitOr, bitXor};

@@ -6,10 +6,11 @@ use native.Mathlib.Nat.{pow-suc, add-zero, zero-add}
 use native.Mathlib.Omega.{arith}
 use lib.ListN.{length, take, drop, getD, length-append}
 use lib.Seq.{sets-eq, getD-drop, drop-drop, take-append-seam, drop-append-seam}
+use Rattle.words.specs.Bytes.{numberIn}
 use Rattle.texts.specs.declared.Text.{Text}
 use Rattle.forms.specs.declared.Operand.{Operand}
 use Rattle.forms.specs.declared.Instruction.{Instruction}
-use Rattle.export.specs.Flat.{numberIn, textIn, operandIn, insnOf, laid, low, textFlat, memoryFlat, operandFlat, operandOf, flatOf}
+use Rattle.export.specs.Flat.{textIn, operandIn, insnOf, laid, low, textFlat, memoryFlat, operandFlat, operandOf, flatOf}
 use Rattle.agreement.specs.Handed.Carries.{TextFits, OperandFits, InsnFits}
 
 -- From place p on, the list begins with v
