@@ -221,23 +221,6 @@ fn ranged(o: Operand) -> bool
     o.kind <= 2
 }
 
-// Whether every operand below the count is in range.
-fn all_ranged(ops: [Operand; 3], count: usize) -> bool
-    requires { ⌜ count ≤ 3 ⌝ }
-    ensures { λ r. ⌜ r ≡ all rangedIs (take count ops) ⌝ }
-{
-    let mut i = 0;
-    while i < count {
-        let o = ops[i];
-        if ranged(o) {
-            i += 1;
-        } else {
-            return false;
-        }
-    }
-    true
-}
-
 // Whether a register operand's text is one.
 fn spelled(o: Operand) -> bool
     ensures { λ r. ⌜ r ≡ spelledIs o ⌝ }
@@ -249,21 +232,29 @@ fn spelled(o: Operand) -> bool
     true
 }
 
-// Whether every register text below the count is one.
-fn all_spelled(ops: [Operand; 3], count: usize) -> bool
+// Whether every operand below the count is in range, and every register text among them one.
+struct Fit {
+    ranged: bool,
+    spelled: bool,
+}
+
+fn operands_fit(ops: [Operand; 3], count: usize) -> Fit
     requires { ⌜ count ≤ 3 ⌝ }
-    ensures { λ r. ⌜ r ≡ all spelledIs (take count ops) ⌝ }
+    ensures { λ r. ⌜ (r .ranged ≡ all rangedIs (take count ops)) × (r .spelled ≡ all spelledIs (take count ops)) ⌝ }
 {
+    let mut in_range = true;
+    let mut texts = true;
     let mut i = 0;
     while i < count {
         let o = ops[i];
-        if spelled(o) {
-            i += 1;
-        } else {
-            return false;
-        }
+        in_range = in_range & ranged(o);
+        texts = texts & spelled(o);
+        i += 1;
     }
-    true
+    Fit {
+        ranged: in_range,
+        spelled: texts,
+    }
 }
 
 // What an instruction does to the stack, or that it is declined, or 4 or 3 where it is no instruction.
@@ -276,9 +267,10 @@ pub fn classify(insn: Instruction) -> Classified
     if 3 < count {
         return Classified::BadOperands;
     }
-    if all_ranged(ops, count) {
+    let fit = operands_fit(ops, count);
+    if fit.ranged {
         if texts::valid(m) {
-            if all_spelled(ops, count) {
+            if fit.spelled {
                 let family = names::family_text(m);
                 return families::form(family, ops, count);
             }

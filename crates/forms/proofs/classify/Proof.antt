@@ -1,21 +1,18 @@
-use Rattle.forms.specs.Classify.{classifyOf}
-use borrow.Author.Tests.{le-leb, lt-leb}
 use borrow.Author.Needs.{needs}
 use Rattle.forms.proofs.classify.Statement.{statement}
 use Rattle.forms.proofs.classify.Tie as tie
+use Rattle.forms.specs.Classify.{classifyOf}
+use borrow.Author.Tests.{le-leb, lt-leb}
 
 returns : tie.Need-returns
 unfolding classifyOf
 returns c = simp (lt-leb _ _ (c .if1 .taken))
 
-all-ranged-requires : tie.Need-all-ranged-requires
-all-ranged-requires c κs = search needs
+operands-fit-requires : tie.Need-operands-fit-requires
+operands-fit-requires c κs = search needs
 
 valid-requires : tie.Need-valid-requires
 valid-requires c κs = search needs
-
-all-spelled-requires : tie.Need-all-spelled-requires
-all-spelled-requires c κs = search needs
 
 family-text-requires : tie.Need-family-text-requires
 family-text-requires c κs = search needs
@@ -25,28 +22,27 @@ form-requires c κs = search needs
 
 returns-2 : tie.Need-returns-2
 unfolding classifyOf
-returns-2 c = simp (le-leb _ _ (c .before .before .before .before .before .before .before .before .if1 .left), ← c .before .before .before .before .before .before .before .all-ranged .ensures, c .before .before .before .before .before .before .if2 .taken, ← c .before .before .before .before .before .valid .ensures, c .before .before .before .before .if3 .taken, ← c .before .before .before .all-spelled .ensures, c .before .before .if4 .taken, ← c .before .family-text .ensures, c .form .ensures)
+returns-2 c = simp (le-leb _ _ (c .before .before .before .before .before .before .before .if1 .left), ← c .before .before .before .before .before .before .operands-fit .ensures .0, c .before .before .before .before .before .if2 .taken, ← c .before .before .before .before .valid .ensures, c .before .before .before .if3 .taken, ← c .before .before .before .before .before .before .operands-fit .ensures .1, c .before .before .if4 .taken, ← c .before .family-text .ensures, c .form .ensures)
 
 returns-3 : tie.Need-returns-3
 unfolding classifyOf
-returns-3 c = simp (le-leb _ _ (c .before .before .before .before .before .before .if1 .left), ← c .before .before .before .before .before .all-ranged .ensures, c .before .before .before .before .if2 .taken, ← c .before .before .before .valid .ensures, c .before .before .if3 .taken, ← c .before .all-spelled .ensures, c .if4 .left)
+returns-3 c = simp (le-leb _ _ (c .before .before .before .before .before .if1 .left), ← c .before .before .before .before .operands-fit .ensures .0, c .before .before .before .if2 .taken, ← c .before .before .valid .ensures, c .before .if3 .taken, ← c .before .before .before .before .operands-fit .ensures .1, c .if4 .left)
 
 returns-4 : tie.Need-returns-4
 unfolding classifyOf
-returns-4 c = simp (le-leb _ _ (c .before .before .before .before .if1 .left), ← c .before .before .before .all-ranged .ensures, c .before .before .if2 .taken, ← c .before .valid .ensures, c .if3 .left)
+returns-4 c = simp (le-leb _ _ (c .before .before .before .before .if1 .left), ← c .before .before .before .operands-fit .ensures .0, c .before .before .if2 .taken, ← c .before .valid .ensures, c .if3 .left)
 
 returns-5 : tie.Need-returns-5
 unfolding classifyOf
-returns-5 c = simp (le-leb _ _ (c .before .before .if1 .left), ← c .before .all-ranged .ensures, c .if2 .left)
+returns-5 c = simp (le-leb _ _ (c .before .before .if1 .left), ← c .before .operands-fit .ensures .0, c .if2 .left)
 
 pub classify-spec : {M : Type 1} → statement M
 classify-spec =
     tie.close
     (tie.spec
     returns
-    all-ranged-requires
+    operands-fit-requires
     valid-requires
-    all-spelled-requires
     family-text-requires
     form-requires
     returns-2
