@@ -1,11 +1,34 @@
 // The flat layout of an instruction: 177 bytes, numbers low byte first.
 ghost use mathlib.Core.Path.{_≡_};
-ghost use Prim.Native.Nat.{_+_, _≤_};
+ghost use Prim.Native.Nat.{_+_, _<_, _≤_};
 ghost use lib.ListN.{length, take, drop};
+ghost use Rattle.words.specs.Bytes.{numberIn};
 ghost use Rattle.export.specs.Flat.{textIn, operandIn, insnOf, laid, low, textFlat, memoryFlat, operandFlat, flatOf};
 use forms::Instruction;
 use forms::Operand;
 use texts::Text;
+
+// The number of two bytes at a place; of four; of eight. All 177 bytes are there, so no place is tested, unlike in `words::bytes`.
+fn two(s: &[u8], at: usize) -> u64
+    requires { ⌜ at + 2 ≤ length (now s) ⌝ }
+    ensures { λ r. ⌜ (r ≡ numberIn (now (s .entry)) at 2) × (r < 65536) ⌝ }
+{
+    s[at] as u64 + 256 * (s[at + 1] as u64)
+}
+
+fn four(s: &[u8], at: usize) -> u64
+    requires { ⌜ at + 4 ≤ length (now s) ⌝ }
+    ensures { λ r. ⌜ (r ≡ numberIn (now (s .entry)) at 4) × (r < 4294967296) ⌝ }
+{
+    two(s, at) + 65536 * two(s, at + 2)
+}
+
+fn eight(s: &[u8], at: usize) -> u64
+    requires { ⌜ at + 8 ≤ length (now s) ⌝ }
+    ensures { λ r. ⌜ r ≡ numberIn (now (s .entry)) at 8 ⌝ }
+{
+    four(s, at) + 4294967296 * four(s, at + 4)
+}
 
 // The 32 bytes at a place.
 fn bytes(s: &[u8], at: usize) -> [u8; 32]
@@ -38,9 +61,9 @@ fn operand(s: &[u8], at: usize) -> Operand
     ensures { λ r. ⌜ r ≡ operandIn (now (s .entry)) at ⌝ }
 {
     let t = text(s, at + 1);
-    let width = words::bytes::two(s, at + 34);
-    let address = words::bytes::four(s, at + 37);
-    let slot = words::bytes::four(s, at + 41);
+    let width = two(s, at + 34);
+    let address = four(s, at + 37);
+    let slot = four(s, at + 41);
     Operand {
         kind: s[at],
         text: t,
@@ -56,7 +79,7 @@ pub(crate) fn read(s: &[u8]) -> Instruction
     requires { ⌜ length (now s) ≡ 177 ⌝ }
     ensures { λ r. ⌜ r ≡ insnOf (now (s .entry)) ⌝ }
 {
-    let address = words::bytes::eight(s, 0);
+    let address = eight(s, 0);
     let m = text(s, 8);
     let a = operand(s, 42);
     let b = operand(s, 87);

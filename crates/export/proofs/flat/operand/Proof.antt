@@ -1,7 +1,7 @@
+use Rattle.export.specs.Flat.{operandIn}
 use borrow.Author.Needs.{needs}
 use Rattle.export.proofs.flat.operand.Statement.{statement}
 use Rattle.export.proofs.flat.operand.Tie as tie
-use Rattle.export.specs.Flat.{operandIn}
 
 add-text : tie.Need-add-text
 add-text c = search needs

@@ -1,8 +1,8 @@
+use native.Mathlib.Omega.{arith}
+use Rattle.export.specs.Flat.{insnOf}
 use borrow.Author.Needs.{needs}
 use Rattle.export.proofs.flat.read.Statement.{statement}
 use Rattle.export.proofs.flat.read.Tie as tie
-use native.Mathlib.Omega.{arith}
-use Rattle.export.specs.Flat.{insnOf}
 
 eight-requires : tie.Need-eight-requires
 eight-requires c κs = search needs
