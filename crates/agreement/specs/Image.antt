@@ -3,11 +3,10 @@
 -- the pattern that `image` reads from the given image, or the given free pattern, and a store of 80 bits that answers 0 stores the image that `image` writes
 -- of the old top. `Loads` and `Stores` say it in Image/Lifts, and `fld-80-bytes` and `fstp-80-bytes` there in bytes; `fld-80-is` and `fstp-80-is` in Spelled are of the names
 use mathlib.Core.Path.{_≡_, refl, sym, subst, ap, _∙_}
-use mathlib.Core.Bool.{Bool, false, not}
+use mathlib.Core.Bool.{Bool, false}
 use mathlib.Core.List.{List, [], _∷_, _++_}
 use Prim.Native.Nat.{ℕ, _*_, _^_, _≤_, _<_}
 use native.Mathlib.Omega.{arith}
-use borrow.Author.Tests.{not-true}
 use lib.ListN.{length, getD, length-append}
 use Rattle.lists.specs.Rows.{wrote}
 use Rattle.lists.specs.Steps.{Built, _▸_}
@@ -31,8 +30,8 @@ use Rattle.evaluator.specs.Value.{widthOf}
 use Rattle.evaluator.specs.Lists.{pairAt, vals}
 use Rattle.evaluator.specs.Ready.{GivenFits}
 use Rattle.evaluator.specs.Laws.{all-fit}
-use Rattle.agreement.specs.Runs.{Held, begun, stepped, called, ran}
-use Rattle.agreement.specs.Fits.{formFits, memoryFits}
+use Rattle.agreement.specs.Runs.{Held, begun, stepped, called, ran, ran-on}
+use Rattle.agreement.specs.Fits.{formFits, memoryFits, isMemory, firstOf, no-register}
 use Rattle.agreement.specs.Fits.Classified.{classify-fits}
 use Rattle.agreement.specs.Tracks.Sorts.{run-tracked}
 use Rattle.agreement.specs.Sorted.{Sound, sorted}
@@ -46,15 +45,9 @@ pub mod Steps
 pub mod Lifts
 
 -- A store to memory has no register for its operand
-no-register : (i : Instruction) (w : ℕ) (pop : Bool) (r : RoundingMode) → classifyOf i ≡ Modelled (StoreMemory w Float pop r) → siteOf i .register ≡ false
+stores-to-memory : (i : Instruction) (w : ℕ) (pop : Bool) (r : RoundingMode) → classifyOf i ≡ Modelled (StoreMemory w Float pop r) → siteOf i .register ≡ false
 unfolding formFits
-no-register i w pop r e = not-true (siteOf i .register) (and-r (memoryFits w Float) (not (siteOf i .register)) (classify-fits i (StoreMemory w Float pop r) e))
-
--- One call more
-ran-on : (h : Held) (is : List Instruction) (i : Instruction) → ran h (is ++ (i ∷ [])) ≡ called (ran h is) i
-unfolding ran
-ran-on h [] i = refl
-ran-on h (j ∷ is) i = ran-on (called h j) is i
+stores-to-memory i w pop r e = no-register (firstOf i) w (and-r (memoryFits w Float) (isMemory (firstOf i) w) (classify-fits i (StoreMemory w Float pop r) e))
 
 module _ (nodes statements : List ℕ) (is : List Instruction) (i : Instruction) where
   -- The run, and the run with one call more
@@ -104,7 +97,7 @@ module _ (nodes statements : List ℕ) (is : List Instruction) (i : Instruction)
         let m = lift .st .nodes in
         let t = readOf (before .st) 0 .val in
         let a = applied (before .st) i (before .nodes) (before .statements) (StoreMemory 80 Float pop r) c answers in
-        let free = no-register i 80 pop r c in
+        let free = stores-to-memory i 80 pop r c in
         let e : lift ≡ stored (before .st) i pop = a .same ∙ store-is (before .st) i pop r free in
         let rows = front words (topOf (before .st) pop .ns) _ (subst (λ (d : Built). InWords words (d .ns)) e (a .stands)) in
         let k = simp length-append at (ap (λ (d : Built). length (d .ns)) e) in

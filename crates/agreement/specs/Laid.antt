@@ -1,11 +1,19 @@
 -- Rows in a list's words: rows that are laid in are read back, and what stood before them stays
-use mathlib.Core.Path.{_≡_, _∙_}
+use mathlib.Core.Path.{_≡_, subst, _∙_}
+use mathlib.Core.Bool.{Bool, true}
 use mathlib.Core.List.{List, [], _∷_}
-use Prim.Native.Nat.{ℕ, _+_, _*_, _≤_}
+use Prim.Native.Nat.{ℕ, _+_, _*_, _≤_, _<_}
 use native.Mathlib.Omega.{arith}
+use native.Mathlib.Decide.{decLt}
 use lib.ListN.{length, getD}
 use Rattle.lists.specs.Rows.{Row, row, stored, wrote, length-stored}
 use Rattle.lists.proofs.Frame.{From, word-kept, row-read}
+use Rattle.words.specs.Tests.{and-l, and-r}
+use Rattle.texts.specs.Bytes.{all}
+
+-- A test of a row's kind and fields
+unfoldable pub over : (ℕ → ℕ → ℕ → ℕ → Bool) → Row → Bool
+over f (row n k a b c) = f k a b c
 
 -- The rows are numbered one after the other, n first
 unfoldable pub InOrder : ℕ → List Row → Type 0
@@ -46,3 +54,24 @@ lies l n (row k x a b c ∷ rs) p h = rw (p .0) (
       },
       lies w (n + 1) rs (p .1) (omega arith),
     ))
+
+-- Each row of a list that lies in the words passes a test where it stands
+pub each-row : (f : ℕ → ℕ → ℕ → ℕ → Bool) (w : List ℕ) (rs : List Row) (n : ℕ) → Lies w n rs → all (over f) rs ≡ true
+    → (j : ℕ) → n ≤ j → j < n + length rs → f (getD w (4 * j) 0) (getD w (4 * j + 1) 0) (getD w (4 * j + 2) 0) (getD w (4 * j + 3) 0) ≡ true
+unfolding Lies over
+each-row f w [] n l e j h k = absurd (none h k)
+  where
+    none : n ≤ j → j < n + 0 → ⊥
+    none h k = omega arith
+each-row f w (row m x a b c ∷ rs) n l e j h k =
+    way (λ d. each-row f w rs (n + 1) (l .1) (and-r (f x a b c) _ e) j (omega arith) (omega arith)) (decLt n j)
+  where
+    At : ℕ → Type 0
+    At i = f (getD w (4 * i) 0) (getD w (4 * i + 1) 0) (getD w (4 * i + 2) 0) (getD w (4 * i + 3) 0) ≡ true
+
+    here : At n
+    here = rw (l .0 .kind, l .0 .first, l .0 .second, l .0 .third) (and-l (f x a b c) _ e)
+
+    way : (n < j → At j) → Dec (n < j) → At j
+    way g (yes d) = g d
+    way g (no d) = let s : n ≡ j = omega arith in subst At s here

@@ -2,6 +2,7 @@ pub mod Runs
 pub mod Demands
 pub mod Fits
 pub mod Fine
+pub mod Makes
 pub mod Laid
 pub mod Stands
 pub mod Tracks
@@ -14,6 +15,10 @@ pub mod Values
 pub mod Bench
 pub mod InWords
 pub mod Applied
+pub mod Written
+pub mod Counted
+pub mod Widths
+pub mod Covers
 pub mod Image
 pub mod Determined
 pub mod Handed

@@ -1,7 +1,7 @@
 -- A run: any number of lifts, one after the other, from the fresh state over two lists
-use mathlib.Core.Path.{_≡_}
+use mathlib.Core.Path.{_≡_, refl}
 use mathlib.Core.Bool.{Bool, _||_}
-use mathlib.Core.List.{List, [], _∷_}
+use mathlib.Core.List.{List, [], _∷_, _++_}
 use Prim.Native.Nat.{ℕ}
 use lib.Dec.{eqb}
 use Rattle.lists.specs.Rows.{wrote}
@@ -41,6 +41,17 @@ declines r = eqb r 1 || eqb r 2
 unfoldable pub ran : Held → List Instruction → Held
 ran h [] = h
 ran h (i ∷ is) = ran (called h i) is
+
+-- Some calls, and then one more, or any number
+pub ran-on : (h : Held) (is : List Instruction) (i : Instruction) → ran h (is ++ (i ∷ [])) ≡ called (ran h is) i
+unfolding ran
+ran-on h [] i = refl
+ran-on h (j ∷ is) i = ran-on (called h j) is i
+
+pub ran-append : (h : Held) (is js : List Instruction) → ran h (is ++ js) ≡ ran (ran h is) js
+unfolding ran
+ran-append h [] js = refl
+ran-append h (i ∷ is) js = ran-append (called h i) is js
 
 -- What lifter::lift promises of a call makes of the words and the state what `called` says
 pub call-is : (s s′ : State) (i : Instruction) (r : ℕ) (n n′ m m′ : List ℕ) → Does (liftOf s i n m) s′ r n n′ m m′

@@ -1,21 +1,17 @@
 -- A run from any state whose places are known, over lists that hold anything: what the steps add stands in the words, with its sorts.
 -- Γ₀ has the sorts that are known at the start, any numbers; Γ has in addition one for each node that the run adds
 use mathlib.Core.Path.{_≡_, refl, _∙_}
-use mathlib.Core.Bool.{Bool, true, false, cond}
+use mathlib.Core.Bool.{true}
 use mathlib.Core.List.{List, [], _∷_}
 use Prim.Native.Nat.{ℕ, _+_, _*_, _≤_, _<_}
 use native.Mathlib.Omega.{arith}
-use borrow.Author.Tests.{leb-true}
-use lib.Dec.{leb}
 use lib.ListN.{length, take}
 use lib.Seq.{take-length}
 use Rattle.lists.specs.Rows.{roomOf, wrote, length-wrote}
 use Rattle.lists.specs.Steps.{Built, gives}
-use Rattle.lists.specs.Valid.{validOf}
 use Rattle.lists.proofs.Adds.{Adds}
 use Rattle.forms.specs.declared.Instruction.{Instruction}
 use Rattle.forms.specs.Classify.{classifyOf}
-use Rattle.lifter.specs.Lift.{loweredOf, fittingOf, liftOf}
 use Rattle.memory.specs.Site.{siteOf}
 use Rattle.lifter.proofs.Adds.{lowered-adds}
 use Rattle.agreement.specs.Runs.{Held, stepped, called, ran}
@@ -23,6 +19,7 @@ use Rattle.agreement.specs.Demands.{demandedAt}
 use Rattle.agreement.specs.Fine.{grown, Placed, Knows, grown-stays, length-grown, Given, Fine}
 use Rattle.agreement.specs.Stands.{Stands, take-grown, numbered-order, after-exact, nodes-step, statements-step}
 use Rattle.agreement.specs.Fine.Lifts.{lowered-fine}
+use Rattle.agreement.specs.Written.{room-words, loweredAt, by-call}
 pub mod Sorts
 
 -- What holds of h, where the run began over Γ₀ and m₀ statements
@@ -51,11 +48,6 @@ tracks-from Γ₀ h p r r′ =
   where
     none : (a n : ℕ) → a ≤ n → n < a → ⊥
     none a n x y = omega arith
-
--- A count within the room
-room-words : (words n : ℕ) → n ≤ roomOf words → (4 * n ≤ words) × (n ≤ 65535)
-unfolding roomOf
-room-words words n h = omega arith
 
 -- One step that fits
 step-tracks : {Γ₀ : List ℕ} {m₀ : ℕ} {Γ : List ℕ} {h : Held} (b : Built) → Tracks Γ₀ m₀ Γ h → Fine (h .st) [] 0 b → Adds (h .st) 46 5 b
@@ -95,24 +87,12 @@ pub record Followed (Γ₀ : List ℕ) (m₀ : ℕ) (h : Held) : Type 0 where
 
 -- One call of lift
 pub call-follows : {Γ₀ : List ℕ} {m₀ : ℕ} {h : Held} (i : Instruction) → Followed Γ₀ m₀ h → Followed Γ₀ m₀ (called h i)
-unfolding called liftOf fittingOf
 call-follows {Γ₀} {m₀} {h} i f =
-    way (validOf (h .st) (roomOf (length (h .nodes))) (roomOf (length (h .statements))))
-    (leb (b .st .nodes) (roomOf (length (h .nodes)))) (leb (b .st .statements) (roomOf (length (h .statements)))) refl refl
-  where
-    b : Built
-    b = loweredOf (h .st) (classifyOf i) (siteOf i)
-
-    refused : (r : ℕ) → Followed Γ₀ m₀ (stepped h (gives (h .st) r))
-    refused r = record { sorts = f .sorts; tracks = gives-tracks r (f .tracks) }
-
-    way : (x y z : Bool) → leb (b .st .nodes) (roomOf (length (h .nodes))) ≡ y → leb (b .st .statements) (roomOf (length (h .statements))) ≡ z
-        → Followed Γ₀ m₀ (stepped h (cond x (cond y (cond z b (gives (h .st) 7)) (gives (h .st) 6)) (gives (h .st) 5)))
-    way true true true p q =
-        record { sorts = grown (f .sorts) (b .ns); tracks = step-tracks b (f .tracks) (lowered-fine i (h .st)) (lowered-adds (h .st) (classifyOf i) (siteOf i)) (leb-true _ _ p) (leb-true _ _ q) }
-    way true true false p q = refused 7
-    way true false z p q = refused 6
-    way false y z p q = refused 5
+    by-call (Followed Γ₀ m₀) h i (λ r. record { sorts = f .sorts; tracks = gives-tracks r (f .tracks) }) (λ w.
+    record {
+      sorts = grown (f .sorts) (loweredAt h i .ns);
+      tracks = step-tracks (loweredAt h i) (f .tracks) (lowered-fine i (h .st)) (lowered-adds (h .st) (classifyOf i) (siteOf i)) (w .room) (w .room′);
+    })
 
 -- Any number of calls
 pub run-follows : {Γ₀ : List ℕ} {m₀ : ℕ} {h : Held} (is : List Instruction) → Followed Γ₀ m₀ h → Followed Γ₀ m₀ (ran h is)

@@ -4,7 +4,7 @@ use mathlib.Core.Bool.{Bool, true, false, _||_}
 use mathlib.Core.List.{List, [], _∷_}
 use Prim.Native.Nat.{ℕ, zero, suc, _+_, _*_, _^_, _≤_}
 use native.Mathlib.Omega.{arith}
-use borrow.Author.Tests.{leb-true, eq-eqb, not-true}
+use borrow.Author.Tests.{leb-true, eq-eqb}
 use lib.Dec.{leb, ltb, eqb}
 use lib.ListN.{getD}
 use Rattle.words.specs.Tests.{and-l, and-r}
@@ -34,7 +34,7 @@ use Rattle.lifter.specs.Apply.{applyX87Of}
 use Rattle.lifter.specs.Lift.{loweredOf}
 use Rattle.memory.specs.Site.{siteOf}
 use Rattle.agreement.specs.Demands.{isWide, demanded}
-use Rattle.agreement.specs.Fits.{memoryFits, sourceFits, formFits}
+use Rattle.agreement.specs.Fits.{memoryFits, isMemory, sourceFits, formFits, firstOf, no-register}
 use Rattle.agreement.specs.Fits.Classified.{classify-fits}
 use Rattle.agreement.specs.Fine.{Placed, _has_, Known, Knows, Fine, next, moved, either, by}
 use Rattle.agreement.specs.Fine.Nodes.{node, fresh-node, temporary-node, Says, statement, quiet, still}
@@ -150,10 +150,10 @@ module _ (i : Instruction) where
   unfolding x87MemoryReadOf
   memory-read s width format e = next _ (load-read s width format e) (λ s raw. converted s raw width format e)
 
-  source : (s : State) (src : ArithSrc) → sourceFits src ≡ true → Fine s [] 79 (sourceOf s (siteOf i) src)
+  source : (s : State) (src : ArithSrc) → sourceFits (firstOf i) src ≡ true → Fine s [] 79 (sourceOf s (siteOf i) src)
   unfolding sourceOf sourceFits
   source s (Slot index) e = read s index (leb-true index 7 e)
-  source s (Memory width format) e = memory-read s width format e
+  source s (Memory width format) e = memory-read s width format (and-l (memoryFits width format) _ e)
 
 top : (s : State) (pop? : Bool) → Fine s [] 79 (topOf s pop?)
 unfolding topOf
@@ -164,7 +164,7 @@ unfolding orderedOf
 ordered s op a b reversed = either reversed (by (1 ∷ 0 ∷ []) (extended-arith s op b a)) (extended-arith s op a b)
 
 module _ (i : Instruction) (s : State) where
-  arith-fine : (op : X87Arith) (dst : ℕ) (src : ArithSrc) (reversed pop : Bool) → dst ≤ 7 → sourceFits src ≡ true
+  arith-fine : (op : X87Arith) (dst : ℕ) (src : ArithSrc) (reversed pop : Bool) → dst ≤ 7 → sourceFits (firstOf i) src ≡ true
       → Fine s [] 0 (x87ArithOf s (siteOf i) op dst src reversed pop)
   unfolding x87ArithOf
   arith-fine op dst src reversed pop h e =
@@ -174,7 +174,7 @@ module _ (i : Instruction) (s : State) where
       next _ (by (2 ∷ []) (write s dst v)) (λ s _.
       still 0 [] (λ Γ p h. dropped-if pop Γ s p)))))
 
-  compare-status : (src : ArithSrc) (pops : ℕ) → sourceFits src ≡ true → Fine s [] 0 (x87CompareStatusOf s (siteOf i) src pops)
+  compare-status : (src : ArithSrc) (pops : ℕ) → sourceFits (firstOf i) src ≡ true → Fine s [] 0 (x87CompareStatusOf s (siteOf i) src pops)
   unfolding x87CompareStatusOf
   compare-status src pops e =
       next _ (read s 0 (omega arith)) (λ s top.
@@ -190,13 +190,13 @@ module _ (i : Instruction) (s : State) where
       next _ (statement (9 ∷ []) to-fsw) (λ s _.
       still 0 [] (λ Γ p h. dropped-times pops Γ s p))))))))))))
 
-  store-memory : (width : ℕ) (format : MemFormat) (pop : Bool) (r : RoundingMode) → memoryFits width format ≡ true → siteOf i .register ≡ false
+  store-memory : (width : ℕ) (format : MemFormat) (pop : Bool) (r : RoundingMode) → memoryFits width format ≡ true → isMemory (firstOf i) width ≡ true
       → Fine s [] 0 (x87StoreMemoryOf s (siteOf i) width format pop r)
   unfolding x87StoreMemoryOf writeDstOf
   store-memory width format pop r e f =
       next _ (top s pop) (λ s value.
       next _ (from-slot s value width format r e) (λ s stored.
-      rw f (statement (1 ∷ []) (store (bits width format e)))))
+      rw (no-register (firstOf i) width f) (statement (1 ∷ []) (store (bits width format e)))))
 
   store-status : Fine s [] 0 (x87StoreStatusOf s (siteOf i))
   unfolding x87StoreStatusOf writeDstOf
@@ -255,16 +255,16 @@ module _ (s : State) where
       next _ (read s 0 (omega arith)) (λ s value. next _ (write s index value) (λ s _. still 0 [] (λ Γ p h. dropped-if pop Γ s p)))
 
 -- EVERY FORM THAT FITS
-pub apply-fine : (i : Instruction) (s : State) (form : Form) → formFits (siteOf i .register) form ≡ true → Fine s [] 0 (applyX87Of s form (siteOf i))
+pub apply-fine : (i : Instruction) (s : State) (form : Form) → formFits (firstOf i) form ≡ true → Fine s [] 0 (applyX87Of s form (siteOf i))
 unfolding applyX87Of formFits
 apply-fine i s (PushConst low high) e = push-const i s low high e
-apply-fine i s (PushMemory width format) e = push-memory i s width format e
+apply-fine i s (PushMemory width format) e = push-memory i s width format (and-l (memoryFits width format) _ e)
 apply-fine i s (PushSlot index) e = push-slot i s index (leb-true index 7 e)
 apply-fine i s (StoreMemory width format pop r) e =
-    store-memory i s width format pop r (and-l (memoryFits width format) _ e) (not-true _ (and-r (memoryFits width format) _ e))
+    store-memory i s width format pop r (and-l (memoryFits width format) _ e) (and-r (memoryFits width format) _ e)
 apply-fine i s (StoreSlot index pop) e = store-slot s index pop
 apply-fine i s (Arith op dst src reversed pop) e =
-    arith-fine i s op dst src reversed pop (leb-true dst 7 (and-l (leb dst 7) (sourceFits src) e)) (and-r (leb dst 7) (sourceFits src) e)
+    arith-fine i s op dst src reversed pop (leb-true dst 7 (and-l (leb dst 7) (sourceFits (firstOf i) src) e)) (and-r (leb dst 7) (sourceFits (firstOf i) src) e)
 apply-fine i s (CompareStatus src pops) e = compare-status i s src pops e
 apply-fine i s (CompareFlags src pop) e = compare-flags s src pop (leb-true src 7 e)
 apply-fine i s (ConditionalMove src condition) e = conditional-move s src condition (leb-true src 7 e)

@@ -1,10 +1,8 @@
 -- A call that answers 1 or 2 leaves no place of the stack used
 use mathlib.Core.Path.{_≡_, refl}
 use mathlib.Core.Bool.{Bool, true, false, cond}
-use mathlib.Core.List.{List}
 use Prim.Native.Nat.{ℕ}
 use native.Mathlib.Omega.{arith}
-use lib.Dec.{leb}
 use lib.ListN.{length}
 use Rattle.lists.specs.Rows.{roomOf}
 use Rattle.lists.specs.Steps.{Built, _▸_, gives}
@@ -22,9 +20,10 @@ use Rattle.memory.specs.Memory.{writeDstOf, x87StoreMemoryOf, x87StoreStatusOf}
 use Rattle.moves.specs.Moves.{x87ArithOf, x87CompareStatusOf, x87CompareFlagsOf, x87ConditionalMoveOf, x87UnaryOf, storeSlotOf}
 use Rattle.moves.specs.Pushes.{declineX87Of, landOf, pushConstOf, pushSlotOf, pushMemoryOf}
 use Rattle.lifter.specs.Apply.{applyX87Of}
-use Rattle.lifter.specs.Lift.{loweredOf, fittingOf, liftOf}
+use Rattle.lifter.specs.Lift.{loweredOf}
 use Rattle.memory.specs.Site.{siteOf}
-use Rattle.agreement.specs.Runs.{declines}
+use Rattle.agreement.specs.Runs.{Held, declines, answered, stepped, called}
+use Rattle.agreement.specs.Written.{by-lift}
 
 -- Where a step's answer is a decline, no place is used
 abbrev Clears : Built → Type 0
@@ -76,26 +75,13 @@ module _ (i : Instruction) (s : State) where
   lowered-clears BadText = never
   lowered-clears BadOperands = never
 
-module _ (i : Instruction) (s : State) (nodes statements : List ℕ) where
-  pub decline-clears : declines (liftOf s i nodes statements .val) ≡ true → liftOf s i nodes statements .st .depth ≡ 0
-  unfolding liftOf fittingOf gives
-  decline-clears =
-      way (validOf s (roomOf (length nodes)) (roomOf (length statements))) (leb (b .st .nodes) (roomOf (length nodes))) (leb (b .st .statements) (roomOf (length statements)))
-    where
-      b : Built
-      b = loweredOf s (classifyOf i) (siteOf i)
-
-      way : (x y z : Bool) → Clears (cond x (cond y (cond z b (gives s 7)) (gives s 6)) (gives s 5))
-      way true true true = lowered-clears i s (classifyOf i)
-      way true true false = never
-      way true false z = never
-      way false y z = never
+module _ (i : Instruction) (h : Held) where
+  pub decline-clears : declines (answered h i) ≡ true → called h i .st .depth ≡ 0
+  unfolding called stepped gives
+  decline-clears = by-lift Clears h i never never never (λ _ _. lowered-clears i (h .st) (classifyOf i))
 
   -- Nor is a state declined that is not valid
-  pub decline-valid : declines (liftOf s i nodes statements .val) ≡ true → validOf s (roomOf (length nodes)) (roomOf (length statements)) ≡ true
-  unfolding liftOf gives
-  decline-valid = way (validOf s (roomOf (length nodes)) (roomOf (length statements)))
-    where
-      way : (x : Bool) → declines (cond x (fittingOf (loweredOf s (classifyOf i) (siteOf i)) s nodes statements) (gives s 5) .val) ≡ true → x ≡ true
-      way true e = refl
-      way false e = never e
+  pub decline-valid : declines (answered h i) ≡ true → validOf (h .st) (roomOf (length (h .nodes))) (roomOf (length (h .statements))) ≡ true
+  unfolding gives
+  decline-valid =
+      by-lift (λ (b : Built). declines (b .val) ≡ true → validOf (h .st) (roomOf (length (h .nodes))) (roomOf (length (h .statements))) ≡ true) h i never never never (λ v _ _. v)
