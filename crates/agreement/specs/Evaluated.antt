@@ -35,7 +35,8 @@ width-bits s h =
     let e₃ : s ≡ 3904 → ⊥ = λ e. omega arith in
     simp (ne-eqb s 2072 e₁, ne-eqb s 2869 e₂, ne-eqb s 3904 e₃)
 
-sound-evaluated : (h : Held) (g : List ℕ) (m : ℕ) → Sound h → h .st .nodes ≤ length g / 2 → h .st .nodes ≤ m / 2 → GivenFits (h .nodes) g (h .st .nodes) → Evaluated h g m
+-- Of any lists that are sound
+pub sound-evaluated : (h : Held) (g : List ℕ) (m : ℕ) → Sound h → h .st .nodes ≤ length g / 2 → h .st .nodes ≤ m / 2 → GivenFits (h .nodes) g (h .st .nodes) → Evaluated h g m
 sound-evaluated h g m s p q f =
     let e = evaluates (h .nodes) g (h .st .nodes) m (s .passes) p q f in
     record {

@@ -19,6 +19,8 @@ pub mod Written
 pub mod Counted
 pub mod Widths
 pub mod Covers
+pub mod Refused
+pub mod Calls
 pub mod Image
 pub mod Determined
 pub mod Handed

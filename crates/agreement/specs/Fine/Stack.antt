@@ -70,11 +70,11 @@ kept-placed Γ s i v f e p = way (leb i 7) refl
     way false q = p
 
 -- So many entries of a list, from entry k on
-abbrev entries : ℕ → ℕ → List ℕ → List ℕ
+abbrev pub entries : ℕ → ℕ → List ℕ → List ℕ
 entries k zero l = []
 entries k (suc n) l = getD l k 0 ∷ entries (k + 1) n l
 
-entries-at : (k n : ℕ) (l t : List ℕ) (j : ℕ) → j < n → getD (entries k n l ++ t) j 0 ≡ getD l (k + j) 0
+pub entries-at : (k n : ℕ) (l t : List ℕ) (j : ℕ) → j < n → getD (entries k n l ++ t) j 0 ≡ getD l (k + j) 0
 entries-at k zero l t j h = absurd (none h)
   where
     none : j < 0 → ⊥

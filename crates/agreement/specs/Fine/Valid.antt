@@ -13,7 +13,7 @@ use Rattle.lists.specs.Valid.{soundOf, allSound, validOf}
 use Rattle.lists.specs.declared.State.{State}
 use Rattle.agreement.specs.Fine.{Placed}
 
-inside : (Γ : List ℕ) (v : ℕ) → getD Γ v 0 ≡ 79 → v < length Γ
+pub inside : (Γ : List ℕ) (v : ℕ) → getD Γ v 0 ≡ 79 → v < length Γ
 inside Γ v e = way (decLt v (length Γ))
   where
     way : Dec (v < length Γ) → v < length Γ
