@@ -7,16 +7,14 @@ use native.Mathlib.Nat.{pow-suc}
 use native.Mathlib.Numerals.{add-one}
 use native.Mathlib.Omega.{arith}
 use lib.Dec.{eqb, ltb, leb}
-use lib.ListN.{length, drop, getD, drop-of-length-le, List·getD-map, List·getD-eq-default, length-drop}
+use lib.ListN.{length, drop, getD, drop-of-length-le, length-drop}
 use lib.Seq.{drop-cons}
 use borrow.Author.Tests.{eq-eqb, ne-eqb, lt-ltb, lt-leb, le-leb, ltb-true, eqb-true, eqb-false, leb-true}
 use Rattle.texts.specs.Bytes.{all}
 use Rattle.texts.specs.Letters.{lowerOf, trimOf, sameLetters}
-use Rattle.forms.specs.Keys.{number, lowerIs, keyOf, nameKey, positionOf}
-use Rattle.forms.specs.Codes.{familyFrom}
-use Rattle.forms.specs.Names.{Name, names, noName, find, familyOf}
-use Rattle.forms.specs.declared.Family.{Family}
-use Rattle.forms.specs.declared.Family.the-variants.{Unknown}
+use Rattle.forms.specs.Inside.Keys.{number, lowerIs, keyOf, Entry, nameEntry, familyIn, codeIn}
+use Rattle.forms.specs.Inside.Codes.{familyFrom}
+use Rattle.forms.specs.Names.{Name, names, find, familyOf}
 
 and-l : (a b : Bool) → (a && b) ≡ true → a ≡ true
 and-l true b e = refl
@@ -103,66 +101,64 @@ same-way : (a b : ℕ) (e : Bool) → eqb b a ≡ e → eqb a b ≡ e
 same-way a b true q = eq-eqb a b (sym (eqb-true b a q))
 same-way a b false q = ne-eqb a b (λ z. eqb-false b a q (sym z))
 
-chosen : (t : List ℕ) (n : Name) (ns : List Name) (e : Bool) → sameLetters t (n .text) ≡ e → find t ns ≡ getD ns (positionOf (keyOf t) (map nameKey ns)) noName .family
-    → find t (n ∷ ns) ≡ getD (n ∷ ns) (cond e 0 (suc (positionOf (keyOf t) (map nameKey ns)))) noName .family
-chosen t n ns true q r = rw q
-chosen t n ns false q r = rw q r
-
 -- the rule of the table, computed: each name has one to eight small letters
 names-rule : all nameIs names ≡ true
 unfolding names
 names-rule = refl
 
-at-row : (t : List ℕ) (n : Name) (ns : List Name) (e : Bool) → nameIs n ≡ true → eqb (nameKey n) (keyOf t) ≡ e → find t ns ≡ getD ns (positionOf (keyOf t) (map nameKey ns)) noName .family
-    → find t (n ∷ ns) ≡ getD (n ∷ ns) (cond e 0 (suc (positionOf (keyOf t) (map nameKey ns)))) noName .family
-at-row t n ns e h q r =
+-- one row: a name has the key of a text exactly if it has its letters
+at-row : (t : List ℕ) (n : Name) → nameIs n ≡ true → eqb (number (n .text)) (keyOf t) ≡ sameLetters t (n .text)
+at-row t n h =
     let f = and-r (all letterIs (n .text)) (leb (length (n .text)) 8 && ltb 0 (length (n .text))) h in
     let k = key-finds t (n .text) (and-l (all letterIs (n .text)) (leb (length (n .text)) 8 && ltb 0 (length (n .text))) h)
     (leb-true (length (n .text)) 8 (and-l (leb (length (n .text)) 8) (ltb 0 (length (n .text))) f))
     (ltb-true 0 (length (n .text)) (and-r (leb (length (n .text)) 8) (ltb 0 (length (n .text))) f)) in
-    chosen t n ns e (sym k ∙ same-way (keyOf t) (nameKey n) e q) r
+    same-way (number (n .text)) (keyOf t) (sameLetters t (n .text)) k
 
 -- looking a text up by its key finds what its letters find, in any table of such names
-pub find-position : (t : List ℕ) (ns : List Name) → all nameIs ns ≡ true → find t ns ≡ getD ns (positionOf (keyOf t) (map nameKey ns)) noName .family
-find-position t [] h = refl
-find-position t (n ∷ ns) h =
-    at-row t n ns (eqb (nameKey n) (keyOf t)) (and-l (nameIs n) (all nameIs ns) h) refl (find-position t ns (and-r (nameIs n) (all nameIs ns) h))
+find-key : (t : List ℕ) (ns : List Name) → all nameIs ns ≡ true → familyIn (keyOf t) (map nameEntry ns) ≡ find t ns
+find-key t [] h = refl
+find-key t (n ∷ ns) h =
+    rw (at-row t n (and-l (nameIs n) (all nameIs ns) h), find-key t ns (and-r (nameIs n) (all nameIs ns) h))
 
-pub found : (s : List ℕ) (i : ℕ) → i ≡ positionOf (keyOf (trimOf s)) (map nameKey names) → getD names i noName .family ≡ familyOf s
+pub found : (s : List ℕ) → familyIn (keyOf (trimOf s)) (map nameEntry names) ≡ familyOf s
 unfolding familyOf
-found s i e = rw e (sym (find-position (trimOf s) names names-rule))
+found s = find-key (trimOf s) names names-rule
 
 -- one turn of the search, and its ends
-module _ (l : List ℕ) (x i : ℕ) where
-  pub position-on : i < length l → (getD l i 0 ≡ x → ⊥) → i + positionOf x (drop i l) ≡ i + 1 + positionOf x (drop (i + 1) l)
-  position-on h e = rw (add-one, drop-cons l i 0, ne-eqb _ _ e) (omega arith)
+module _ (keys codes : List ℕ) (x i : ℕ) (e : length keys ≡ length codes) where
+  pub code-on : i < length keys → (getD keys i 0 ≡ x → ⊥) → codeIn x (drop i keys) (drop i codes) ≡ codeIn x (drop (i + 1) keys) (drop (i + 1) codes)
+  unfolding codeIn
+  code-on h n = rw (add-one, drop-cons keys i 0, drop-cons codes i 0 (omega arith), ne-eqb _ _ n)
 
-  pub position-stop : i < length l → getD l i 0 ≡ x → i + positionOf x (drop i l) ≡ i
-  position-stop h e = rw (drop-cons l i 0, eq-eqb _ _ e) (omega arith)
+  pub code-stop : i < length keys → getD keys i 0 ≡ x → codeIn x (drop i keys) (drop i codes) ≡ getD codes i 0
+  unfolding codeIn
+  code-stop h q = rw (drop-cons keys i 0, drop-cons codes i 0 (omega arith), eq-eqb _ _ q)
 
-  pub position-end : length l ≤ i → i + positionOf x (drop i l) ≡ i
-  position-end h = rw (drop-of-length-le l h) (omega arith)
+  pub code-end : length keys ≤ i → codeIn x (drop i keys) (drop i codes) ≡ 255
+  unfolding codeIn
+  code-end h = rw (drop-of-length-le keys h)
 
-default : {A : Type 0} (l : List A) (i : ℕ) (d e : A) → i < length l → getD l i d ≡ getD l i e
-default [] i d e h = absurd (omega arith)
-default (x ∷ l) zero d e h = refl
-default (x ∷ l) (suc i) d e h = default l i d e (omega arith)
+-- the rows of the source's two columns
+abbrev entries : List ℕ → List ℕ → List Entry
+entries [] codes = []
+entries (k ∷ keys) [] = []
+entries (k ∷ keys) (c ∷ codes) = record { key = k; family = familyFrom c } ∷ entries keys codes
 
--- the code beside the place that was found, and the one past the end
-module _ (keys codes : List ℕ) (x i : ℕ) (e : length keys ≡ length codes) (l : i + positionOf x (drop i keys) ≡ positionOf x keys) where
-  pub code-stop : i < length keys → getD keys i 0 ≡ x → getD codes i 0 ≡ getD codes (positionOf x keys) 255
-  code-stop h q = default codes i 0 255 (omega (arith, e)) ∙ rw (← l, position-stop keys x i h q)
+code-family : (x : ℕ) (keys codes : List ℕ) → familyFrom (codeIn x keys codes) ≡ familyIn x (entries keys codes)
+unfolding codeIn familyFrom
+code-family x [] codes = refl
+code-family x (k ∷ keys) [] = refl
+code-family x (k ∷ keys) (c ∷ codes) = split (eqb k x) (code-family x keys codes)
+  where
+    split : (e : Bool) → familyFrom (codeIn x keys codes) ≡ familyIn x (entries keys codes)
+        → familyFrom (cond e c (codeIn x keys codes)) ≡ cond e (familyFrom c) (familyIn x (entries keys codes))
+    split true h = refl
+    split false h = h
 
-  pub code-end : length keys ≤ i → 255 ≡ getD codes (positionOf x keys) 255
-  code-end h = sym (rw (← l, position-end keys x i h) (List·getD-eq-default codes 255 {n = i} (omega (arith, e))))
-
--- codes that spell the table's families, one after the other, spell them at each place, and 255 past its end
-pub code-rule : (codes : List ℕ) → map familyFrom codes ≡ map (λ (n : Name). n .family) names → (i : ℕ) → familyFrom (getD codes i 255) ≡ getD names i noName .family
-unfolding familyFrom
-code-rule codes e i =
-    sym (List·getD-map familyFrom codes i 255)
-    ∙ ap (λ (l : List Family). getD l i Unknown) e
-    ∙ List·getD-map (λ (n : Name). n .family) names i noName
+-- columns whose rows are those of the names find what they find
+pub code-rule : (keys codes : List ℕ) → entries keys codes ≡ map nameEntry names → (x : ℕ) → familyFrom (codeIn x keys codes) ≡ familyIn x (map nameEntry names)
+code-rule keys codes e x = code-family x keys codes ∙ ap (familyIn x) e
 
 -- the number of a short text is small
 bound : (l : List ℕ) (k : ℕ) → length l ≤ k → all lowerIs l ≡ true → number (map lowerOf l) < 256 ^ k

@@ -8,7 +8,7 @@ use lib.ListN.{length, drop, getD}
 use lib.Seq.{drop-length}
 use Rattle.texts.specs.Bytes.{all}
 use Rattle.texts.specs.Letters.{lowerOf}
-use Rattle.forms.specs.Keys.{number, lowerIs}
+use Rattle.forms.specs.Inside.Keys.{number, lowerIs}
 use Rattle.forms.proofs.Lookup.{key-small, key-on, key-in, key-zero, key-long, key-whole, lower-byte}
 use Rattle.forms.proofs.names.key.Statement.{statement}
 use Rattle.forms.proofs.names.key.Tie as tie
