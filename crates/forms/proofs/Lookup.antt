@@ -10,19 +10,13 @@ use lib.Dec.{eqb, ltb, leb}
 use lib.ListN.{length, drop, getD, drop-of-length-le, length-drop}
 use lib.Seq.{drop-cons}
 use borrow.Author.Tests.{eq-eqb, ne-eqb, lt-ltb, lt-leb, le-leb, ltb-true, eqb-true, eqb-false, leb-true}
+use Rattle.words.specs.Bytes.{littleEndian}
+use Rattle.words.specs.Tests.{and-l, and-r}
 use Rattle.texts.specs.Bytes.{all}
 use Rattle.texts.specs.Letters.{lowerOf, trimOf, sameLetters}
-use Rattle.forms.specs.Inside.Keys.{number, lowerIs, keyOf, Entry, nameEntry, familyIn, codeIn}
+use Rattle.forms.specs.Inside.Keys.{lowerIs, keyOf, Entry, nameEntry, familyIn, codeIn}
 use Rattle.forms.specs.Inside.Codes.{familyFrom}
 use Rattle.forms.specs.Names.{Name, names, find, familyOf}
-
-and-l : (a b : Bool) → (a && b) ≡ true → a ≡ true
-and-l true b e = refl
-and-l false b e = e
-
-and-r : (a b : Bool) → (a && b) ≡ true → b ≡ true
-and-r true b e = e
-and-r false b e = absurd (mathlib.Core.Bool.false≢true e)
 
 -- a letter of a name: small, and no zero byte
 abbrev letterIs : ℕ → Bool
@@ -56,18 +50,18 @@ digit x y a b false t h k p q =
     ne-eqb (x + 256 * a) (y + 256 * b) (λ z. e (omega arith))
 
 -- texts without a zero byte have one number exactly if they have the same letters
-same-number : (t r : List ℕ) → all lowerIs t ≡ true → all letterIs r ≡ true → eqb (number (map lowerOf t)) (number r) ≡ sameLetters t r
+same-number : (t r : List ℕ) → all lowerIs t ≡ true → all letterIs r ≡ true → eqb (littleEndian (map lowerOf t)) (littleEndian r) ≡ sameLetters t r
 same-number [] [] h k = refl
 same-number [] (y ∷ r) h k =
     let l = letter y r k in
-    ne-eqb 0 (y + 256 * number r) (λ z. omega arith)
+    ne-eqb 0 (y + 256 * littleEndian r) (λ z. omega arith)
 same-number (x ∷ t) [] h k =
     let l = lowered x t h in
-    ne-eqb (lowerOf x + 256 * number (map lowerOf t)) 0 (λ z. omega arith)
+    ne-eqb (lowerOf x + 256 * littleEndian (map lowerOf t)) 0 (λ z. omega arith)
 same-number (x ∷ t) (y ∷ r) h k =
     let l = letter y r k in
     let m = lowered x t h in
-    digit (lowerOf x) y (number (map lowerOf t)) (number r) (eqb (lowerOf x) (lowerOf y)) (sameLetters t r) (m .1) (l .1) (rw (l .2)) (same-number t r (m .2) (l .3))
+    digit (lowerOf x) y (littleEndian (map lowerOf t)) (littleEndian r) (eqb (lowerOf x) (lowerOf y)) (sameLetters t r) (m .1) (l .1) (rw (l .2)) (same-number t r (m .2) (l .3))
 
 -- a text with the letters of a name has none that is zero, and as many
 fits : (t r : List ℕ) → sameLetters t r ≡ true → all letterIs r ≡ true → (all lowerIs t ≡ true) × (length t ≡ length r)
@@ -80,20 +74,20 @@ fits (x ∷ t) (y ∷ r) e k =
     let f = fits t r (and-r (eqb (lowerOf x) (lowerOf y)) (sameLetters t r) e) (l .3) in
     (rw (lt-ltb 0 (lowerOf x) (omega arith), lt-ltb (lowerOf x) 256 (omega arith)) (f .0), ap suc (f .1))
 
-positive : (r : List ℕ) → 0 < length r → all letterIs r ≡ true → 0 < number r
+positive : (r : List ℕ) → 0 < length r → all letterIs r ≡ true → 0 < littleEndian r
 positive [] h k = absurd (omega arith)
 positive (y ∷ r) h k = let l = letter y r k in omega arith
 
 module _ (t r : List ℕ) (k : all letterIs r ≡ true) (h : length r ≤ 8) (l : 0 < length r) where
   -- a text that is no candidate has not the letters of a name
-  apart : (b s : Bool) → (leb (length t) 8 && all lowerIs t) ≡ b → sameLetters t r ≡ s → eqb (cond b (number (map lowerOf t)) 0) (number r) ≡ s
+  apart : (b s : Bool) → (leb (length t) 8 && all lowerIs t) ≡ b → sameLetters t r ≡ s → eqb (cond b (littleEndian (map lowerOf t)) 0) (littleEndian r) ≡ s
   apart true s e q = same-number t r (and-r (leb (length t) 8) (all lowerIs t) e) k ∙ q
-  apart false false e q = let p = positive r l k in ne-eqb 0 (number r) (λ z. omega arith)
+  apart false false e q = let p = positive r l k in ne-eqb 0 (littleEndian r) (λ z. omega arith)
   apart false true e q =
       let f = fits t r q k in
       absurd (mathlib.Core.Bool.false≢true (sym e ∙ rw (le-leb (length t) 8 (omega (arith, f .1)), f .0)))
 
-  pub key-finds : eqb (keyOf t) (number r) ≡ sameLetters t r
+  pub key-finds : eqb (keyOf t) (littleEndian r) ≡ sameLetters t r
   unfolding keyOf
   key-finds = apart (leb (length t) 8 && all lowerIs t) (sameLetters t r) refl refl
 
@@ -107,13 +101,13 @@ unfolding names
 names-rule = refl
 
 -- one row: a name has the key of a text exactly if it has its letters
-at-row : (t : List ℕ) (n : Name) → nameIs n ≡ true → eqb (number (n .text)) (keyOf t) ≡ sameLetters t (n .text)
+at-row : (t : List ℕ) (n : Name) → nameIs n ≡ true → eqb (littleEndian (n .text)) (keyOf t) ≡ sameLetters t (n .text)
 at-row t n h =
     let f = and-r (all letterIs (n .text)) (leb (length (n .text)) 8 && ltb 0 (length (n .text))) h in
     let k = key-finds t (n .text) (and-l (all letterIs (n .text)) (leb (length (n .text)) 8 && ltb 0 (length (n .text))) h)
     (leb-true (length (n .text)) 8 (and-l (leb (length (n .text)) 8) (ltb 0 (length (n .text))) f))
     (ltb-true 0 (length (n .text)) (and-r (leb (length (n .text)) 8) (ltb 0 (length (n .text))) f)) in
-    same-way (number (n .text)) (keyOf t) (sameLetters t (n .text)) k
+    same-way (littleEndian (n .text)) (keyOf t) (sameLetters t (n .text)) k
 
 -- looking a text up by its key finds what its letters find, in any table of such names
 find-key : (t : List ℕ) (ns : List Name) → all nameIs ns ≡ true → familyIn (keyOf t) (map nameEntry ns) ≡ find t ns
@@ -161,7 +155,7 @@ pub code-rule : (keys codes : List ℕ) → entries keys codes ≡ map nameEntry
 code-rule keys codes e x = code-family x keys codes ∙ ap (familyIn x) e
 
 -- the number of a short text is small
-bound : (l : List ℕ) (k : ℕ) → length l ≤ k → all lowerIs l ≡ true → number (map lowerOf l) < 256 ^ k
+bound : (l : List ℕ) (k : ℕ) → length l ≤ k → all lowerIs l ≡ true → littleEndian (map lowerOf l) < 256 ^ k
 bound [] zero h e = omega arith
 bound [] (suc k) h e =
     let p = bound [] k (omega arith) refl in
@@ -173,7 +167,7 @@ bound (x ∷ l) (suc k) h e =
     rw (pow-suc 256 k) (omega arith)
 
 -- what is left of a text of eight bytes, but for its first byte, is below 2 to the 56
-pub key-small : (s : List ℕ) (i : ℕ) → length s ≤ 8 → 0 < i → all lowerIs (drop i s) ≡ true → number (map lowerOf (drop i s)) < 72057594037927936
+pub key-small : (s : List ℕ) (i : ℕ) → length s ≤ 8 → 0 < i → all lowerIs (drop i s) ≡ true → littleEndian (map lowerOf (drop i s)) < 72057594037927936
 key-small s i h l e = bound (drop i s) 7 (omega (arith, length-drop i s)) e
 
 module _ (s : List ℕ) (i k b n : ℕ) (q : k ≡ i - 1) (l : 0 < i) (h : i ≤ length s) (r : b ≡ lowerOf (getD s k 0)) where
@@ -182,7 +176,7 @@ module _ (s : List ℕ) (i k b n : ℕ) (q : k ≡ i - 1) (l : 0 < i) (h : i ≤
       let e : suc k ≡ i = omega arith in
       drop-cons s k 0 (omega arith) ∙ rw e
 
-  pub key-on : n ≡ number (map lowerOf (drop i s)) → n * 256 + b ≡ number (map lowerOf (drop k s))
+  pub key-on : n ≡ littleEndian (map lowerOf (drop i s)) → n * 256 + b ≡ littleEndian (map lowerOf (drop k s))
   key-on e = rw (cell, ← r, ← e) (omega arith)
 
   pub key-in : (b ≡ 0 → ⊥) → b < 256 → all lowerIs (drop i s) ≡ true → all lowerIs (drop k s) ≡ true
@@ -201,7 +195,7 @@ pub key-long : (s : List ℕ) → 8 < length s → 0 ≡ keyOf s
 unfolding keyOf
 key-long s h = rw (lt-leb (length s) 8 h)
 
-pub key-whole : (s : List ℕ) (i n : ℕ) → length s ≤ 8 → i ≤ 0 → n ≡ number (map lowerOf (drop i s)) → all lowerIs (drop i s) ≡ true → n ≡ keyOf s
+pub key-whole : (s : List ℕ) (i n : ℕ) → length s ≤ 8 → i ≤ 0 → n ≡ littleEndian (map lowerOf (drop i s)) → all lowerIs (drop i s) ≡ true → n ≡ keyOf s
 unfolding keyOf
 key-whole s zero n h l e f = rw (le-leb (length s) 8 h, f) e
 key-whole s (suc i) n h l e f = absurd (omega arith)
