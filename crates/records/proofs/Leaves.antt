@@ -10,7 +10,7 @@ use lib.ListN.{length, getD}
 use borrow.Author.Tests.{lt-ltb, le-ltb, le-leb, lt-leb, leb-true}
 use Rattle.words.specs.Bytes.{numberIn}
 use Rattle.words.proofs.Places as words
-use Rattle.records.specs.Reading.{Reading, Got, Bad, _▹_, byteAt, testedAt, numberAt}
+use Rattle.records.specs.Reading.{Reading, Got, _▹_, byteAt, testedAt, numberAt}
 use Rattle.records.specs.Inside.Steps.{read, on}
 use Rattle.records.specs.declared.Next.{Next}
 use Rattle.records.specs.declared.Next.the-variants.{At, Stop}
