@@ -21,7 +21,7 @@ use Rattle.lists.specs.Steps.{Built, _▸_, gives}
 use Rattle.lists.specs.Nodes.{nodeOf, statementOf, inputCounted, temporaryCounted, freshOf, temporaryOf}
 use Rattle.lists.specs.Stack as stack
 use Rattle.lists.specs.Valid.{soundOf, allSound, validOf}
-use Rattle.exprs.specs.Formats.{roundingOf, isImage, arithKindOf}
+use Rattle.exprs.specs.Formats.{isImage, arithKindOf}
 use Rattle.exprs.specs.Image.{extendedFromMemoryOf}
 use Rattle.exprs.specs.Slots.{narrowedOf, fromSlotOf}
 use Rattle.exprs.specs.Operations.{extendedArithOf, unorderedOf}
@@ -33,7 +33,7 @@ use Rattle.lifter.specs.Apply.{applyX87Of}
 use Rattle.lifter.specs.Lift.{loweredOf, fittingOf, liftOf}
 use Rattle.words.specs.Wide.{val, extractOf, concatOf, wide-val}
 use Rattle.words.specs.declared.Wide.{Wide}
-use Rattle.image.specs.Bytes.{littleEndian, bytesOf}
+use Rattle.words.specs.Bytes.{littleEndian, bytesOf}
 use Rattle.image.specs.Layout.{imageOf, hasNumber, patternIn}
 use Rattle.image.specs.Answers.{readOf, imageAfter}
 use Rattle.image.specs.declared.Found.the-variants.{Pattern}
@@ -51,7 +51,7 @@ unfoldable pub after : List Instruction → Held
 after is = ran (begun (replicate 256 0) (replicate 64 0)) is
 
 unfoldable pub lifted : List Instruction → Instruction → Built
-unfolding after ran called stepped liftOf fittingOf loweredOf validOf allSound soundOf roomOf up stored wrote _▸_ gives nodeOf statementOf inputCounted temporaryCounted freshOf temporaryOf classifyOf formOf familyOf names rangedIs spelledIs slotOf widthOf texts.validOf trimOf cut placeOf applyX87Of declineX87Of landOf pushConstOf pushSlotOf pushMemoryOf droppedTimes droppedIf orderedOf x87ArithOf x87CompareStatusOf x87CompareFlagsOf variableOf readOperandLoweredOf imageReadOf convertedOf x87MemoryReadOf sourceOf writeDstOf topOf x87StoreMemoryOf roundingOf isImage arithKindOf extendedFromMemoryOf narrowedOf fromSlotOf extendedArithOf unorderedOf x87StatusWordOf stack.havocOf stack.grown stack.bottomOf stack.lowered stack.ensureOf stack.slotOf stack.kept stack.readOf stack.writeOf stack.overflows stack.pushOf stack.dropTopOf stack.popOf
+unfolding after ran called stepped liftOf fittingOf loweredOf validOf allSound soundOf roomOf up stored wrote _▸_ gives nodeOf statementOf inputCounted temporaryCounted freshOf temporaryOf classifyOf formOf familyOf names rangedIs spelledIs slotOf widthOf texts.validOf trimOf cut placeOf applyX87Of declineX87Of landOf pushConstOf pushSlotOf pushMemoryOf droppedTimes droppedIf orderedOf x87ArithOf x87CompareStatusOf x87CompareFlagsOf variableOf readOperandLoweredOf imageReadOf convertedOf x87MemoryReadOf sourceOf writeDstOf topOf x87StoreMemoryOf isImage arithKindOf extendedFromMemoryOf narrowedOf fromSlotOf extendedArithOf unorderedOf x87StatusWordOf stack.havocOf stack.grown stack.bottomOf stack.lowered stack.ensureOf stack.slotOf stack.kept stack.readOf stack.writeOf stack.overflows stack.pushOf stack.dropTopOf stack.popOf
 lifted before i = let h = after before in liftOf (h .st) i (h .nodes) (h .statements)
 
 -- The figures of a lift: its answer, the state's depth, inputs and temporaries, and how many nodes and statements it adds
@@ -194,7 +194,7 @@ free-read bytes long none p lo h = rw (long, lt-ltb (val p) (2 ^ 79) h, none, �
 
 -- EVERY ROW OF THE TABLE HOLDS
 pub bench : AllHold table
-unfolding lifted figures imageAfter imageOf bytesOf littleEndian
+unfolding lifted figures imageAfter imageOf bytesOf
 bench =
     refl & refl & refl & refl & free-read _ refl refl & free-read _ refl refl & refl & refl & refl & refl & refl & refl & refl & refl & refl
     & refl & refl & bit-9 & refl & refl & refl & refl & refl & end

@@ -65,7 +65,7 @@ use Rattle.listing.specs.declared.Stop.{Stop}
 use Rattle.listing.specs.declared.Listed.{Listed}
 use Rattle.words.specs.Bytes.{numberIn}
 use Rattle.words.specs.Wide as words
-use Rattle.words.specs.Wide.{val, wideOf, wide-val}
+use Rattle.words.specs.Wide.{val, wideOf}
 use Rattle.words.specs.declared.Wide.{Wide}
 use Rattle.image.specs.Answers as answers
 use Rattle.image.specs.Answers.{imageAfter}
@@ -113,10 +113,6 @@ both r s l m p q = (p .0 ∙ sym (q .0), p .1 ∙ sym (q .1))
 -- what is left follows from the answer
 follows : {A : Type 0} {x : A} (f : A → List ℕ) → Determined₁ (λ (r : A) l. (r ≡ x) × (l ≡ f r))
 follows f r s l m p q = let e = p .0 ∙ sym (q .0) in (e, p .1 ∙ ap f e ∙ sym (q .1))
-
--- the words of a two-word value are below 2 to the 64, and its number fixes both
-wide : {x : ℕ} → Determined (λ (r : Wide). (r .lo < 2 ^ 64) × (val r ≡ x))
-wide r s p q = wide-val r (p .0) ∙ ap wideOf (p .1 ∙ sym (q .1)) ∙ sym (wide-val s (q .0))
 
 -- structs with equal fields are equal
 step-same : {r s : Step} → r .state ≡ s .state → r .at ≡ s .at → r ≡ s
@@ -473,29 +469,29 @@ lifter·lift nodes statements s insn = does
 pub words·low-word : (x : Wide) → Determined (λ (r : ℕ). r ≡ x .lo)
 words·low-word x = one
 
-pub words·and : (x y : Wide) → Determined (λ (r : Wide). (r .lo < 2 ^ 64) × (val r ≡ bitAnd (val x) (val y)))
-words·and x y = wide
+pub words·and : (x y : Wide) → Determined (λ (r : Wide). r ≡ wideOf (bitAnd (val x) (val y)))
+words·and x y = one
 
-pub words·or : (x y : Wide) → Determined (λ (r : Wide). (r .lo < 2 ^ 64) × (val r ≡ bitOr (val x) (val y)))
-words·or x y = wide
+pub words·or : (x y : Wide) → Determined (λ (r : Wide). r ≡ wideOf (bitOr (val x) (val y)))
+words·or x y = one
 
-pub words·xor : (x y : Wide) → Determined (λ (r : Wide). (r .lo < 2 ^ 64) × (val r ≡ bitXor (val x) (val y)))
-words·xor x y = wide
+pub words·xor : (x y : Wide) → Determined (λ (r : Wide). r ≡ wideOf (bitXor (val x) (val y)))
+words·xor x y = one
 
-pub words·shr : (x : Wide) (k : ℕ) → Determined (λ (r : Wide). (r .lo < 2 ^ 64) × (val r ≡ val x / 2 ^ k))
-words·shr x k = wide
+pub words·shr : (x : Wide) (k : ℕ) → Determined (λ (r : Wide). r ≡ wideOf (val x / 2 ^ k))
+words·shr x k = one
 
-pub words·shl : (x : Wide) (k : ℕ) → Determined (λ (r : Wide). (r .lo < 2 ^ 64) × (val r ≡ val x * 2 ^ k % 2 ^ 128))
-words·shl x k = wide
+pub words·shl : (x : Wide) (k : ℕ) → Determined (λ (r : Wide). r ≡ wideOf (val x * 2 ^ k % 2 ^ 128))
+words·shl x k = one
 
-pub words·low : (x : Wide) (k : ℕ) → Determined (λ (r : Wide). (r .lo < 2 ^ 64) × (val r ≡ val x % 2 ^ k))
-words·low x k = wide
+pub words·low : (x : Wide) (k : ℕ) → Determined (λ (r : Wide). r ≡ wideOf (val x % 2 ^ k))
+words·low x k = one
 
-pub words·extract : (x : Wide) (hi lo : ℕ) → Determined (λ (r : Wide). (r .lo < 2 ^ 64) × (val r ≡ words.extractOf (val x) hi lo))
-words·extract x hi lo = wide
+pub words·extract : (x : Wide) (hi lo : ℕ) → Determined (λ (r : Wide). r ≡ wideOf (words.extractOf (val x) hi lo))
+words·extract x hi lo = one
 
-pub words·concat : (x y : Wide) (k : ℕ) → Determined (λ (r : Wide). (r .lo < 2 ^ 64) × (val r ≡ words.concatOf (val x) (val y) k % 2 ^ 128))
-words·concat x y k = wide
+pub words·concat : (x y : Wide) (k : ℕ) → Determined (λ (r : Wide). r ≡ wideOf (words.concatOf (val x) (val y) k % 2 ^ 128))
+words·concat x y k = one
 
 pub words·lt : (x y : Wide) → Determined (λ (r : Bool). r ≡ ltb (val x) (val y))
 words·lt x y = one

@@ -18,27 +18,27 @@ use Rattle.forms.specs.declared.Form.the-variants.{PushMemory, StoreMemory}
 use Rattle.forms.specs.declared.MemFormat.the-variants.{Float}
 use Rattle.forms.specs.declared.RoundingMode.the-variants.{NearestTiesEven}
 use Rattle.forms.specs.declared.Classified.the-variants.{Modelled}
-use Rattle.records.specs.Format.{textOf, register, memory, noOperand}
+use Rattle.records.specs.Format.{textOf, register, memory, absent}
 
 abbrev text : str.String → Text
 text s = textOf (length (bytes s)) (bytes s)
 
 abbrev instruction : str.String → ℕ → Operand → Operand → Instruction
-instruction m n a b = record { operands = a ∷ b ∷ noOperand ∷ []; count = n; mnemonic = text m; address = 16 }
+instruction m n a b = record { operands = a ∷ b ∷ absent ∷ []; count = n; mnemonic = text m; address = 16 }
 
 -- a mnemonic without operands, with one register, with two
 abbrev pub alone : str.String → Instruction
-alone m = instruction m 0 noOperand noOperand
+alone m = instruction m 0 absent absent
 
 abbrev pub at : str.String → str.String → Instruction
-at m a = instruction m 1 (register (text a)) noOperand
+at m a = instruction m 1 (register (text a)) absent
 
 abbrev pub at2 : str.String → str.String → str.String → Instruction
 at2 m a b = instruction m 2 (register (text a)) (register (text b))
 
 -- with memory of so many bits, known, at an address number and with a slot number
 abbrev pub in-memory : str.String → ℕ → ℕ → ℕ → Instruction
-in-memory m width address slot = instruction m 1 (memory width 1 address slot) noOperand
+in-memory m width address slot = instruction m 1 (memory width 1 address slot) absent
 
 -- .. at address number 7, without a slot number
 abbrev pub bits : str.String → ℕ → Instruction

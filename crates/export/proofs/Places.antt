@@ -6,8 +6,9 @@ use native.Mathlib.Numerals.{add-one}
 use native.Mathlib.Omega.{arith}
 use lib.ListN.{length, take, drop, getD, set, length-drop, length-append}
 use lib.Seq.{take-suc, take-suc-set, take-all, getD-drop, length-take-le, length-sets}
+use Rattle.words.specs.Bytes.{bytesOf}
 use Rattle.lists.proofs.Runs.{sets-append}
-use Rattle.export.specs.Flat.{laid, low}
+use Rattle.export.specs.Flat.{laid}
 
 pub copy-on : (s b : List ℕ) (p i : ℕ) → p + i < length s → i < length b → take i b ≡ take i (drop p s) → take (i + 1) (set b i (getD s (p + i) 0)) ≡ take (i + 1) (drop p s)
 copy-on s b p i h k e =
@@ -36,14 +37,15 @@ laid-on l d b p i h e =
 pub laid-end : (l d b : List ℕ) (p i : ℕ) → length b ≤ i → d ≡ laid l p (take i b) → d ≡ laid l p b
 laid-end l d b p i h e = e ∙ ap (laid l p) (take-all i b h)
 
-pub put-more : (l : List ℕ) (p v n : ℕ) → 0 < n → laid (set l p (v % 256)) (p + 1) (low (n - 1) (v / 256)) ≡ laid l p (low n v)
-unfolding laid
+pub put-more : (l : List ℕ) (p v n : ℕ) → 0 < n → laid (set l p (v % 256)) (p + 1) (bytesOf (n - 1) (v / 256)) ≡ laid l p (bytesOf n v)
+unfolding laid bytesOf
 put-more l p v zero h = absurd (omega arith)
 put-more l p v (suc k) h =
     let q : suc k - 1 ≡ k = omega arith in
     rw (q, add-one)
 
-pub put-none : (l : List ℕ) (p v n : ℕ) → n ≤ 0 → l ≡ laid l p (low n v)
+pub put-none : (l : List ℕ) (p v n : ℕ) → n ≤ 0 → l ≡ laid l p (bytesOf n v)
+unfolding bytesOf
 put-none l p v zero h = laid-none l p
 put-none l p v (suc k) h = absurd (omega arith)
 

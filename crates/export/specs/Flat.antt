@@ -1,10 +1,11 @@
 -- The flat layout of an instruction: 177 bytes, low byte first. Address 0 to 8; mnemonic length at 8, its text 9 to 41; operand count at 41; three operands at 42, 87 and 132.
 use mathlib.Core.List.{List, [], _∷_, _++_}
-use Prim.Native.Nat.{ℕ, zero, suc, _+_, _/_, _%_}
+use Prim.Native.Nat.{ℕ, _+_}
 use lib.ListN.{take, drop, getD}
 use lib.Seq.{sets}
-use Rattle.words.specs.Bytes.{numberIn}
+use Rattle.words.specs.Bytes.{numberIn, bytesOf}
 use Rattle.texts.specs.declared.Text.{Text}
+use Rattle.forms.specs.Operands.{noOperand}
 use Rattle.forms.specs.declared.Operand.{Operand}
 use Rattle.forms.specs.declared.Instruction.{Instruction}
 
@@ -38,28 +39,21 @@ insnOf l =
 unfoldable pub laid : List ℕ → ℕ → List ℕ → List ℕ
 laid l i vs = sets l i vs
 
--- the low n bytes of a number
-abbrev pub low : ℕ → ℕ → List ℕ
-low zero v = []
-low (suc n) v = (v % 256) ∷ low n (v / 256)
-
 unfoldable pub textFlat : Text → List ℕ
-textFlat t = low 1 (t .len) ++ t .bytes
+textFlat t = bytesOf 1 (t .len) ++ t .bytes
 
 unfoldable pub memoryFlat : Operand → List ℕ
-memoryFlat o = low 2 (o .width) ++ low 1 (o .known) ++ low 4 (o .address) ++ low 4 (o .slot)
+memoryFlat o = bytesOf 2 (o .width) ++ bytesOf 1 (o .known) ++ bytesOf 4 (o .address) ++ bytesOf 4 (o .slot)
 
 unfoldable pub operandFlat : Operand → List ℕ
-operandFlat o = low 1 (o .kind) ++ textFlat (o .text) ++ memoryFlat o
+operandFlat o = bytesOf 1 (o .kind) ++ textFlat (o .text) ++ memoryFlat o
 
 -- one of the three operands
 abbrev pub operandOf : Instruction → ℕ → Operand
-operandOf i k =
-    getD (i .operands) k
-    (record { kind = 0; text = record { bytes = []; len = 0 }; width = 0; known = 0; address = 0; slot = 0 })
+operandOf i k = getD (i .operands) k noOperand
 
 -- the 177 bytes of an instruction
 unfoldable pub flatOf : Instruction → List ℕ
 flatOf i =
-    low 8 (i .address) ++ (textFlat (i .mnemonic) ++ (low 1 (i .count)
+    bytesOf 8 (i .address) ++ (textFlat (i .mnemonic) ++ (bytesOf 1 (i .count)
     ++ (operandFlat (operandOf i 0) ++ (operandFlat (operandOf i 1) ++ operandFlat (operandOf i 2)))))

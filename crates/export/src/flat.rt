@@ -2,8 +2,8 @@
 ghost use mathlib.Core.Path.{_≡_};
 ghost use Prim.Native.Nat.{_+_, _<_, _≤_};
 ghost use lib.ListN.{length, take, drop};
-ghost use Rattle.words.specs.Bytes.{numberIn};
-ghost use Rattle.export.specs.Flat.{textIn, operandIn, insnOf, laid, low, textFlat, memoryFlat, operandFlat, flatOf};
+ghost use Rattle.words.specs.Bytes.{numberIn, bytesOf};
+ghost use Rattle.export.specs.Flat.{textIn, operandIn, insnOf, laid, textFlat, memoryFlat, operandFlat, flatOf};
 use forms::Instruction;
 use forms::Operand;
 use texts::Text;
@@ -96,7 +96,7 @@ pub(crate) fn read(s: &[u8]) -> Instruction
 // Writes the low `n` bytes of a number at a place.
 fn put(d: &mut [u8], at: usize, v: u64, n: usize)
     requires { ⌜ at + n ≤ length (now d) ⌝ }
-    ensures { λ _. ⌜ now (d .exit) ≡ laid (now (d .entry)) at (low n v) ⌝ }
+    ensures { λ _. ⌜ now (d .exit) ≡ laid (now (d .entry)) at (bytesOf n v) ⌝ }
 {
     if 0 < n {
         d[at] = (v % 256) as u8;

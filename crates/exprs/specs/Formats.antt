@@ -1,11 +1,9 @@
--- The numbers of formats, roundings and operations
+-- The numbers of formats and operations
 use mathlib.Core.Bool.{Bool, false, cond}
 use Prim.Native.Nat.{ℕ}
 use lib.Dec.{eqb}
 use Rattle.forms.specs.declared.X87Arith.{X87Arith}
 use Rattle.forms.specs.declared.X87Arith.the-variants.{Add, Sub, Mul, Div}
-use Rattle.forms.specs.declared.RoundingMode.{RoundingMode}
-use Rattle.forms.specs.declared.RoundingMode.the-variants.{NearestTiesEven, TowardZero}
 use Rattle.forms.specs.declared.MemFormat.{MemFormat}
 use Rattle.forms.specs.declared.MemFormat.the-variants.{Float, Integer}
 
@@ -22,10 +20,6 @@ extended = 3904
 -- The rounding that x87 operations have at reset
 abbrev pub nearest : ℕ
 nearest = 0
-
-unfoldable pub roundingOf : RoundingMode → ℕ
-roundingOf NearestTiesEven = nearest
-roundingOf TowardZero = 1
 
 -- fp_sort_bits_checked: the format of a float of 32 or of 64 bits in memory; `classify` lets no other width through
 unfoldable pub formatOf : ℕ → ℕ

@@ -3,11 +3,12 @@ use mathlib.Core.Bool.{cond}
 use Prim.Native.Nat.{ℕ}
 use Rattle.lists.specs.Steps.{Built, _▸_}
 use Rattle.lists.specs.declared.State.{State}
+use Rattle.forms.specs.Numbers.{roundingNumber}
 use Rattle.forms.specs.declared.RoundingMode.{RoundingMode}
 use Rattle.forms.specs.declared.MemFormat.{MemFormat}
 use Rattle.forms.specs.declared.MemFormat.the-variants.{Float, Integer}
 use Rattle.exprs.specs.Nodes.{bvToFpOf, fpToIeeeBvOf, fpToFpOf, fpToSbvOf, sbvToFpOf}
-use Rattle.exprs.specs.Formats.{extended, nearest, formatOf, roundingOf, isImage}
+use Rattle.exprs.specs.Formats.{extended, nearest, formatOf, isImage}
 use Rattle.exprs.specs.Image.{extendedToMemoryOf}
 
 -- A slot's pattern as a float
@@ -39,11 +40,11 @@ toSlotOf s raw width Integer = integerToSlotOf s raw
 unfoldable pub narrowedOf : State → ℕ → ℕ → MemFormat → RoundingMode → Built
 narrowedOf s value width Float rounding =
     asExtendedOf s value ▸ λ s x.
-    fpToFpOf s x (roundingOf rounding) (formatOf width) ▸ λ s y.
+    fpToFpOf s x (roundingNumber rounding) (formatOf width) ▸ λ s y.
     fromExtendedOf s y
 narrowedOf s value width Integer rounding =
     asExtendedOf s value ▸ λ s x.
-    fpToSbvOf s x (roundingOf rounding) width
+    fpToSbvOf s x (roundingNumber rounding) width
 
 unfoldable pub fromSlotOf : State → ℕ → ℕ → MemFormat → RoundingMode → Built
 fromSlotOf s value width format rounding =

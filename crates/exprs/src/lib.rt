@@ -2,11 +2,12 @@
 // Each function is lent the nodes, adds to them, and its step names the node that it built.
 ghost use mathlib.Core.Path.{_≡_};
 ghost use Rattle.lists.specs.Steps.{Did};
+ghost use Rattle.forms.specs.Numbers.{roundingNumber};
 ghost use Rattle.forms.specs.declared.MemFormat.the-variants.{Float, Integer};
 ghost use Rattle.forms.specs.declared.UnaryOp.the-variants.{Abs, Chs, Sqrt, RoundToIntegral};
 ghost use Rattle.forms.specs.declared.X87Condition.the-variants.{BelowOrEqual, NotBelowOrEqual};
 ghost use Rattle.exprs.specs.Nodes.{slotVarOf, fswOf, flagOf, wideKonstOf, konstOf, bvAndOf, bvXorOf, eqOf, boolAndOf, boolOrOf, boolNotOf, iteOf, extractOf, concatOf, fpArithOf, feqOf, fltOf, fisnanOf, fsqrtOf, froundToIntegralOf, bvToFpOf, fpToIeeeBvOf, fpToSbvOf, sbvToFpOf, fpToFpOf};
-ghost use Rattle.exprs.specs.Formats.{roundingOf, formatOf, isImage, arithKindOf};
+ghost use Rattle.exprs.specs.Formats.{formatOf, isImage, arithKindOf};
 ghost use Rattle.exprs.specs.Image.{extendedFromMemoryOf, extendedToMemoryOf};
 ghost use Rattle.exprs.specs.Slots.{asExtendedOf, fromExtendedOf, floatToSlotOf, integerToSlotOf, toSlotOf, narrowedOf, fromSlotOf};
 ghost use Rattle.exprs.specs.Operations.{extendedArithOf, unaryOf, unorderedOf, flagIsOf, predicateOf};
@@ -183,7 +184,7 @@ pub fn fp_to_fp(nodes: &mut [u64], s: State, x: u32, rounding: u32, format: u32)
 
 // The number of a rounding.
 fn rounding_number(rounding: RoundingMode) -> u32
-    ensures { λ r. ⌜ r ≡ roundingOf rounding ⌝ }
+    ensures { λ r. ⌜ r ≡ roundingNumber rounding ⌝ }
 {
     match rounding {
         RoundingMode::NearestTiesEven => NEAREST,

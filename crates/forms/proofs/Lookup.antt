@@ -7,24 +7,16 @@ use native.Mathlib.Nat.{pow-suc}
 use native.Mathlib.Numerals.{add-one}
 use native.Mathlib.Omega.{arith}
 use lib.Dec.{eqb, ltb, leb}
-use lib.ListN.{length, drop, getD, drop-of-length-le, List·getD-map, List·getD-eq-default, length-drop}
+use lib.ListN.{length, drop, getD, drop-of-length-le, length-drop}
 use lib.Seq.{drop-cons}
 use borrow.Author.Tests.{eq-eqb, ne-eqb, lt-ltb, lt-leb, le-leb, ltb-true, eqb-true, eqb-false, leb-true}
+use Rattle.words.specs.Bytes.{littleEndian}
+use Rattle.words.specs.Tests.{and-l, and-r}
 use Rattle.texts.specs.Bytes.{all}
 use Rattle.texts.specs.Letters.{lowerOf, trimOf, sameLetters}
-use Rattle.forms.specs.Keys.{number, lowerIs, keyOf, nameKey, positionOf}
-use Rattle.forms.specs.Codes.{familyFrom}
-use Rattle.forms.specs.Names.{Name, names, noName, find, familyOf}
-use Rattle.forms.specs.declared.Family.{Family}
-use Rattle.forms.specs.declared.Family.the-variants.{Unknown}
-
-and-l : (a b : Bool) → (a && b) ≡ true → a ≡ true
-and-l true b e = refl
-and-l false b e = e
-
-and-r : (a b : Bool) → (a && b) ≡ true → b ≡ true
-and-r true b e = e
-and-r false b e = absurd (mathlib.Core.Bool.false≢true e)
+use Rattle.forms.specs.Inside.Keys.{lowerIs, keyOf, Entry, nameEntry, familyIn, codeIn}
+use Rattle.forms.specs.Inside.Codes.{familyFrom}
+use Rattle.forms.specs.Names.{Name, names, find, familyOf}
 
 -- a letter of a name: small, and no zero byte
 abbrev letterIs : ℕ → Bool
@@ -58,18 +50,18 @@ digit x y a b false t h k p q =
     ne-eqb (x + 256 * a) (y + 256 * b) (λ z. e (omega arith))
 
 -- texts without a zero byte have one number exactly if they have the same letters
-same-number : (t r : List ℕ) → all lowerIs t ≡ true → all letterIs r ≡ true → eqb (number (map lowerOf t)) (number r) ≡ sameLetters t r
+same-number : (t r : List ℕ) → all lowerIs t ≡ true → all letterIs r ≡ true → eqb (littleEndian (map lowerOf t)) (littleEndian r) ≡ sameLetters t r
 same-number [] [] h k = refl
 same-number [] (y ∷ r) h k =
     let l = letter y r k in
-    ne-eqb 0 (y + 256 * number r) (λ z. omega arith)
+    ne-eqb 0 (y + 256 * littleEndian r) (λ z. omega arith)
 same-number (x ∷ t) [] h k =
     let l = lowered x t h in
-    ne-eqb (lowerOf x + 256 * number (map lowerOf t)) 0 (λ z. omega arith)
+    ne-eqb (lowerOf x + 256 * littleEndian (map lowerOf t)) 0 (λ z. omega arith)
 same-number (x ∷ t) (y ∷ r) h k =
     let l = letter y r k in
     let m = lowered x t h in
-    digit (lowerOf x) y (number (map lowerOf t)) (number r) (eqb (lowerOf x) (lowerOf y)) (sameLetters t r) (m .1) (l .1) (rw (l .2)) (same-number t r (m .2) (l .3))
+    digit (lowerOf x) y (littleEndian (map lowerOf t)) (littleEndian r) (eqb (lowerOf x) (lowerOf y)) (sameLetters t r) (m .1) (l .1) (rw (l .2)) (same-number t r (m .2) (l .3))
 
 -- a text with the letters of a name has none that is zero, and as many
 fits : (t r : List ℕ) → sameLetters t r ≡ true → all letterIs r ≡ true → (all lowerIs t ≡ true) × (length t ≡ length r)
@@ -82,20 +74,20 @@ fits (x ∷ t) (y ∷ r) e k =
     let f = fits t r (and-r (eqb (lowerOf x) (lowerOf y)) (sameLetters t r) e) (l .3) in
     (rw (lt-ltb 0 (lowerOf x) (omega arith), lt-ltb (lowerOf x) 256 (omega arith)) (f .0), ap suc (f .1))
 
-positive : (r : List ℕ) → 0 < length r → all letterIs r ≡ true → 0 < number r
+positive : (r : List ℕ) → 0 < length r → all letterIs r ≡ true → 0 < littleEndian r
 positive [] h k = absurd (omega arith)
 positive (y ∷ r) h k = let l = letter y r k in omega arith
 
 module _ (t r : List ℕ) (k : all letterIs r ≡ true) (h : length r ≤ 8) (l : 0 < length r) where
   -- a text that is no candidate has not the letters of a name
-  apart : (b s : Bool) → (leb (length t) 8 && all lowerIs t) ≡ b → sameLetters t r ≡ s → eqb (cond b (number (map lowerOf t)) 0) (number r) ≡ s
+  apart : (b s : Bool) → (leb (length t) 8 && all lowerIs t) ≡ b → sameLetters t r ≡ s → eqb (cond b (littleEndian (map lowerOf t)) 0) (littleEndian r) ≡ s
   apart true s e q = same-number t r (and-r (leb (length t) 8) (all lowerIs t) e) k ∙ q
-  apart false false e q = let p = positive r l k in ne-eqb 0 (number r) (λ z. omega arith)
+  apart false false e q = let p = positive r l k in ne-eqb 0 (littleEndian r) (λ z. omega arith)
   apart false true e q =
       let f = fits t r q k in
       absurd (mathlib.Core.Bool.false≢true (sym e ∙ rw (le-leb (length t) 8 (omega (arith, f .1)), f .0)))
 
-  pub key-finds : eqb (keyOf t) (number r) ≡ sameLetters t r
+  pub key-finds : eqb (keyOf t) (littleEndian r) ≡ sameLetters t r
   unfolding keyOf
   key-finds = apart (leb (length t) 8 && all lowerIs t) (sameLetters t r) refl refl
 
@@ -103,69 +95,67 @@ same-way : (a b : ℕ) (e : Bool) → eqb b a ≡ e → eqb a b ≡ e
 same-way a b true q = eq-eqb a b (sym (eqb-true b a q))
 same-way a b false q = ne-eqb a b (λ z. eqb-false b a q (sym z))
 
-chosen : (t : List ℕ) (n : Name) (ns : List Name) (e : Bool) → sameLetters t (n .text) ≡ e → find t ns ≡ getD ns (positionOf (keyOf t) (map nameKey ns)) noName .family
-    → find t (n ∷ ns) ≡ getD (n ∷ ns) (cond e 0 (suc (positionOf (keyOf t) (map nameKey ns)))) noName .family
-chosen t n ns true q r = rw q
-chosen t n ns false q r = rw q r
-
 -- the rule of the table, computed: each name has one to eight small letters
 names-rule : all nameIs names ≡ true
 unfolding names
 names-rule = refl
 
-at-row : (t : List ℕ) (n : Name) (ns : List Name) (e : Bool) → nameIs n ≡ true → eqb (nameKey n) (keyOf t) ≡ e → find t ns ≡ getD ns (positionOf (keyOf t) (map nameKey ns)) noName .family
-    → find t (n ∷ ns) ≡ getD (n ∷ ns) (cond e 0 (suc (positionOf (keyOf t) (map nameKey ns)))) noName .family
-at-row t n ns e h q r =
+-- one row: a name has the key of a text exactly if it has its letters
+at-row : (t : List ℕ) (n : Name) → nameIs n ≡ true → eqb (littleEndian (n .text)) (keyOf t) ≡ sameLetters t (n .text)
+at-row t n h =
     let f = and-r (all letterIs (n .text)) (leb (length (n .text)) 8 && ltb 0 (length (n .text))) h in
     let k = key-finds t (n .text) (and-l (all letterIs (n .text)) (leb (length (n .text)) 8 && ltb 0 (length (n .text))) h)
     (leb-true (length (n .text)) 8 (and-l (leb (length (n .text)) 8) (ltb 0 (length (n .text))) f))
     (ltb-true 0 (length (n .text)) (and-r (leb (length (n .text)) 8) (ltb 0 (length (n .text))) f)) in
-    chosen t n ns e (sym k ∙ same-way (keyOf t) (nameKey n) e q) r
+    same-way (littleEndian (n .text)) (keyOf t) (sameLetters t (n .text)) k
 
 -- looking a text up by its key finds what its letters find, in any table of such names
-pub find-position : (t : List ℕ) (ns : List Name) → all nameIs ns ≡ true → find t ns ≡ getD ns (positionOf (keyOf t) (map nameKey ns)) noName .family
-find-position t [] h = refl
-find-position t (n ∷ ns) h =
-    at-row t n ns (eqb (nameKey n) (keyOf t)) (and-l (nameIs n) (all nameIs ns) h) refl (find-position t ns (and-r (nameIs n) (all nameIs ns) h))
+find-key : (t : List ℕ) (ns : List Name) → all nameIs ns ≡ true → familyIn (keyOf t) (map nameEntry ns) ≡ find t ns
+find-key t [] h = refl
+find-key t (n ∷ ns) h =
+    rw (at-row t n (and-l (nameIs n) (all nameIs ns) h), find-key t ns (and-r (nameIs n) (all nameIs ns) h))
 
-pub found : (s : List ℕ) (i : ℕ) → i ≡ positionOf (keyOf (trimOf s)) (map nameKey names) → getD names i noName .family ≡ familyOf s
+pub found : (s : List ℕ) → familyIn (keyOf (trimOf s)) (map nameEntry names) ≡ familyOf s
 unfolding familyOf
-found s i e = rw e (sym (find-position (trimOf s) names names-rule))
+found s = find-key (trimOf s) names names-rule
 
 -- one turn of the search, and its ends
-module _ (l : List ℕ) (x i : ℕ) where
-  pub position-on : i < length l → (getD l i 0 ≡ x → ⊥) → i + positionOf x (drop i l) ≡ i + 1 + positionOf x (drop (i + 1) l)
-  position-on h e = rw (add-one, drop-cons l i 0, ne-eqb _ _ e) (omega arith)
+module _ (keys codes : List ℕ) (x i : ℕ) (e : length keys ≡ length codes) where
+  pub code-on : i < length keys → (getD keys i 0 ≡ x → ⊥) → codeIn x (drop i keys) (drop i codes) ≡ codeIn x (drop (i + 1) keys) (drop (i + 1) codes)
+  unfolding codeIn
+  code-on h n = rw (add-one, drop-cons keys i 0, drop-cons codes i 0 (omega arith), ne-eqb _ _ n)
 
-  pub position-stop : i < length l → getD l i 0 ≡ x → i + positionOf x (drop i l) ≡ i
-  position-stop h e = rw (drop-cons l i 0, eq-eqb _ _ e) (omega arith)
+  pub code-stop : i < length keys → getD keys i 0 ≡ x → codeIn x (drop i keys) (drop i codes) ≡ getD codes i 0
+  unfolding codeIn
+  code-stop h q = rw (drop-cons keys i 0, drop-cons codes i 0 (omega arith), eq-eqb _ _ q)
 
-  pub position-end : length l ≤ i → i + positionOf x (drop i l) ≡ i
-  position-end h = rw (drop-of-length-le l h) (omega arith)
+  pub code-end : length keys ≤ i → codeIn x (drop i keys) (drop i codes) ≡ 255
+  unfolding codeIn
+  code-end h = rw (drop-of-length-le keys h)
 
-default : {A : Type 0} (l : List A) (i : ℕ) (d e : A) → i < length l → getD l i d ≡ getD l i e
-default [] i d e h = absurd (omega arith)
-default (x ∷ l) zero d e h = refl
-default (x ∷ l) (suc i) d e h = default l i d e (omega arith)
+-- the rows of the source's two columns
+abbrev entries : List ℕ → List ℕ → List Entry
+entries [] codes = []
+entries (k ∷ keys) [] = []
+entries (k ∷ keys) (c ∷ codes) = record { key = k; family = familyFrom c } ∷ entries keys codes
 
--- the code beside the place that was found, and the one past the end
-module _ (keys codes : List ℕ) (x i : ℕ) (e : length keys ≡ length codes) (l : i + positionOf x (drop i keys) ≡ positionOf x keys) where
-  pub code-stop : i < length keys → getD keys i 0 ≡ x → getD codes i 0 ≡ getD codes (positionOf x keys) 255
-  code-stop h q = default codes i 0 255 (omega (arith, e)) ∙ rw (← l, position-stop keys x i h q)
+code-family : (x : ℕ) (keys codes : List ℕ) → familyFrom (codeIn x keys codes) ≡ familyIn x (entries keys codes)
+unfolding codeIn familyFrom
+code-family x [] codes = refl
+code-family x (k ∷ keys) [] = refl
+code-family x (k ∷ keys) (c ∷ codes) = split (eqb k x) (code-family x keys codes)
+  where
+    split : (e : Bool) → familyFrom (codeIn x keys codes) ≡ familyIn x (entries keys codes)
+        → familyFrom (cond e c (codeIn x keys codes)) ≡ cond e (familyFrom c) (familyIn x (entries keys codes))
+    split true h = refl
+    split false h = h
 
-  pub code-end : length keys ≤ i → 255 ≡ getD codes (positionOf x keys) 255
-  code-end h = sym (rw (← l, position-end keys x i h) (List·getD-eq-default codes 255 {n = i} (omega (arith, e))))
-
--- codes that spell the table's families, one after the other, spell them at each place, and 255 past its end
-pub code-rule : (codes : List ℕ) → map familyFrom codes ≡ map (λ (n : Name). n .family) names → (i : ℕ) → familyFrom (getD codes i 255) ≡ getD names i noName .family
-unfolding familyFrom
-code-rule codes e i =
-    sym (List·getD-map familyFrom codes i 255)
-    ∙ ap (λ (l : List Family). getD l i Unknown) e
-    ∙ List·getD-map (λ (n : Name). n .family) names i noName
+-- columns whose rows are those of the names find what they find
+pub code-rule : (keys codes : List ℕ) → entries keys codes ≡ map nameEntry names → (x : ℕ) → familyFrom (codeIn x keys codes) ≡ familyIn x (map nameEntry names)
+code-rule keys codes e x = code-family x keys codes ∙ ap (familyIn x) e
 
 -- the number of a short text is small
-bound : (l : List ℕ) (k : ℕ) → length l ≤ k → all lowerIs l ≡ true → number (map lowerOf l) < 256 ^ k
+bound : (l : List ℕ) (k : ℕ) → length l ≤ k → all lowerIs l ≡ true → littleEndian (map lowerOf l) < 256 ^ k
 bound [] zero h e = omega arith
 bound [] (suc k) h e =
     let p = bound [] k (omega arith) refl in
@@ -177,7 +167,7 @@ bound (x ∷ l) (suc k) h e =
     rw (pow-suc 256 k) (omega arith)
 
 -- what is left of a text of eight bytes, but for its first byte, is below 2 to the 56
-pub key-small : (s : List ℕ) (i : ℕ) → length s ≤ 8 → 0 < i → all lowerIs (drop i s) ≡ true → number (map lowerOf (drop i s)) < 72057594037927936
+pub key-small : (s : List ℕ) (i : ℕ) → length s ≤ 8 → 0 < i → all lowerIs (drop i s) ≡ true → littleEndian (map lowerOf (drop i s)) < 72057594037927936
 key-small s i h l e = bound (drop i s) 7 (omega (arith, length-drop i s)) e
 
 module _ (s : List ℕ) (i k b n : ℕ) (q : k ≡ i - 1) (l : 0 < i) (h : i ≤ length s) (r : b ≡ lowerOf (getD s k 0)) where
@@ -186,7 +176,7 @@ module _ (s : List ℕ) (i k b n : ℕ) (q : k ≡ i - 1) (l : 0 < i) (h : i ≤
       let e : suc k ≡ i = omega arith in
       drop-cons s k 0 (omega arith) ∙ rw e
 
-  pub key-on : n ≡ number (map lowerOf (drop i s)) → n * 256 + b ≡ number (map lowerOf (drop k s))
+  pub key-on : n ≡ littleEndian (map lowerOf (drop i s)) → n * 256 + b ≡ littleEndian (map lowerOf (drop k s))
   key-on e = rw (cell, ← r, ← e) (omega arith)
 
   pub key-in : (b ≡ 0 → ⊥) → b < 256 → all lowerIs (drop i s) ≡ true → all lowerIs (drop k s) ≡ true
@@ -205,7 +195,7 @@ pub key-long : (s : List ℕ) → 8 < length s → 0 ≡ keyOf s
 unfolding keyOf
 key-long s h = rw (lt-leb (length s) 8 h)
 
-pub key-whole : (s : List ℕ) (i n : ℕ) → length s ≤ 8 → i ≤ 0 → n ≡ number (map lowerOf (drop i s)) → all lowerIs (drop i s) ≡ true → n ≡ keyOf s
+pub key-whole : (s : List ℕ) (i n : ℕ) → length s ≤ 8 → i ≤ 0 → n ≡ littleEndian (map lowerOf (drop i s)) → all lowerIs (drop i s) ≡ true → n ≡ keyOf s
 unfolding keyOf
 key-whole s zero n h l e f = rw (le-leb (length s) 8 h, f) e
 key-whole s (suc i) n h l e f = absurd (omega arith)

@@ -3,6 +3,6 @@ pub mod Names
 pub mod Families
 pub mod Classify
 pub mod Effects
-pub mod Keys
-pub mod Codes
 pub mod Numbers
+-- how the code does it: no public promise rests on this
+pub mod Inside

@@ -27,10 +27,6 @@ pub record Name : Type 0 where
 abbrev pub name : str.String → Family → Name
 name s f = record { text = bytes s; family = f }
 
--- stands past the end of the table
-abbrev pub noName : Name
-noName = record { text = []; family = Unknown }
-
 -- plus one: exponent 16383, no fraction
 abbrev pub X87-ONE : Form
 X87-ONE = PushConst (2 ^ 63) 8191

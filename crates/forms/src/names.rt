@@ -12,11 +12,11 @@ use super::X87Condition;
 use texts::Text;
 ghost use mathlib.Core.Path.{_≡_};
 ghost use mathlib.Core.List.{map};
-ghost use lib.ListN.{length, take, getD};
+ghost use lib.ListN.{length, take};
 ghost use Rattle.texts.specs.Bytes.{bytesOf};
-ghost use Rattle.forms.specs.Names.{names, noName, familyOf};
-ghost use Rattle.forms.specs.Keys.{keyOf, nameKey, positionOf};
-ghost use Rattle.forms.specs.Codes.{plainFrom, loadFrom, pinnedOf, storeFrom, compareFrom, conditionFrom, arithFrom, reversedFrom, familyFrom};
+ghost use Rattle.forms.specs.Names.{names, familyOf};
+ghost use Rattle.forms.specs.Inside.Keys.{keyOf, codeIn, familyIn, nameEntry};
+ghost use Rattle.forms.specs.Inside.Codes.{plainFrom, loadFrom, pinnedOf, storeFrom, compareFrom, conditionFrom, arithFrom, reversedFrom, familyFrom};
 
 // The names, each with its first letter in the low byte.
 const NAMES: [u64; 56] = [
@@ -138,10 +138,10 @@ const CODES: [u8; 56] = [
     0xc5, // fdivrp
 ];
 
-// The code beside the first place where a number stands, or 255, which no name has.
+// The code beside the first key that is this one, or 255, which no name has.
 fn code_in(keys: &[u64], codes: &[u8], key: u64) -> u8
     requires { ⌜ length (now keys) ≡ length (now codes) ⌝ }
-    ensures { λ r. ⌜ r ≡ getD (now (codes .entry)) (positionOf key (now (keys .entry))) 255 ⌝ }
+    ensures { λ r. ⌜ r ≡ codeIn key (now (keys .entry)) (now (codes .entry)) ⌝ }
 {
     let mut i = 0;
     while i < keys.len() {
@@ -155,7 +155,7 @@ fn code_in(keys: &[u64], codes: &[u8], key: u64) -> u8
 
 // The code of the name with this key.
 fn code_of(key: u64) -> u8
-    ensures { λ r. ⌜ familyFrom r ≡ getD names (positionOf key (map nameKey names)) noName .family ⌝ }
+    ensures { λ r. ⌜ familyFrom r ≡ familyIn key (map nameEntry names) ⌝ }
 {
     code_in(&NAMES, &CODES, key)
 }

@@ -6,7 +6,7 @@ use lib.Dec.{ltb}
 use lib.ListN.{length, take, drop}
 use Rattle.words.specs.declared.Wide.{Wide}
 use Rattle.words.specs.Wide.{val, wideOf}
-use Rattle.image.specs.Bytes.{littleEndian, bytesOf}
+use Rattle.words.specs.Bytes.{littleEndian, bytesOf}
 use Rattle.image.specs.Layout.{imageOf, patternIn}
 use Rattle.image.specs.declared.Found.{Found}
 use Rattle.image.specs.declared.Found.the-variants as found

@@ -7,10 +7,10 @@ use native.Mathlib.Nat.{mod-lt}
 use native.Mathlib.Omega.{arith}
 use lib.Dec.{eqb, lit<}
 use lib.ListN.{length, take, drop, getD, take-append-drop}
-use lib.Pow.{pow-pos, shr-lt, split, high, low}
+use lib.Pow.{pow-pos, shr-lt, high, low}
 use lib.Seq.{take-at, length-take-le}
 use borrow.Author.Tests.{eq-eqb, eqb-true}
-use Rattle.image.specs.Bytes.{littleEndian, bytesOf}
+use Rattle.words.specs.Bytes.{littleEndian, bytesOf}
 use Rattle.image.specs.Layout.{exponentOf, integerBit, imageOf, imageBit, imageExponent, hasNumber, patternOf, patternIn}
 
 -- sign and exponent of an image are its bits from 64 on
@@ -66,12 +66,12 @@ pattern-image v e =
 
 -- a number of k bytes is the number of its k bytes
 pub little-bytes : (k v : ℕ) → v < 2 ^ (8 * k) → littleEndian (bytesOf k v) ≡ v
-unfolding littleEndian bytesOf
+unfolding bytesOf
 little-bytes zero v h = omega arith
 little-bytes (suc k) v h =
     let e : 8 * suc k ≡ 8 * k + 8 = omega arith in
     let d : v / 2 ^ 8 < 2 ^ (8 * k) = shr-lt (8 * k) 8 (rw e at h) in
-    rw (little-bytes k (v / 2 ^ 8) d) (split v 8)
+    rw (little-bytes k (v / 256) d) (omega arith)
 
 -- every entry is a byte
 abbrev pub Bytes : List ℕ → Type 0
@@ -79,10 +79,13 @@ Bytes b = (i : ℕ) → getD b i 0 < 2 ^ 8
 
 -- bytes are the bytes of their number
 pub bytes-little : (s : List ℕ) → Bytes s → bytesOf (length s) (littleEndian s) ≡ s
-unfolding littleEndian bytesOf
+unfolding bytesOf
 bytes-little [] f = refl
 bytes-little (b ∷ s) f =
-    rw (low (littleEndian s) 8 (f 0), high (littleEndian s) 8 (f 0), bytes-little s (λ i. f (suc i)))
+    let h : b < 256 = f 0 in
+    let q : (b + 256 * littleEndian s) / 256 ≡ littleEndian s = omega arith in
+    let r : (b + 256 * littleEndian s) % 256 ≡ b = omega arith in
+    rw (q, r, bytes-little s (λ i. f (suc i)))
 
 -- the first of some bytes are bytes
 take-bytes : (s : List ℕ) (n : ℕ) → Bytes s → Bytes (take n s)
@@ -94,7 +97,7 @@ take-bytes (b ∷ s) (suc n) f (suc i) = take-bytes s n (λ j. f (suc j)) i
 pub length-bytes : (k v : ℕ) → length (bytesOf k v) ≡ k
 unfolding bytesOf
 length-bytes zero v = refl
-length-bytes (suc k) v = ap suc (length-bytes k (v / 2 ^ 8))
+length-bytes (suc k) v = ap suc (length-bytes k (v / 256))
 
 -- WRITE THEN READ KEEPS EVERY PATTERN, whatever stood beyond the image, and whatever the free pattern
 pub write-read : (p free : ℕ) (beyond : List ℕ) → p < 2 ^ 79

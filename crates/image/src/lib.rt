@@ -4,7 +4,7 @@ ghost use mathlib.Core.List.{_++_};
 ghost use Prim.Native.Nat.{ℕ, _≤_, _<_, _%_, _^_};
 ghost use lib.ListN.{length, take, drop};
 ghost use Rattle.words.specs.Wide.{val, wideOf};
-ghost use Rattle.image.specs.Bytes.{littleEndian, bytesOf};
+ghost use Rattle.words.specs.Bytes.{littleEndian, bytesOf};
 ghost use Rattle.image.specs.Layout.{integerBit, imageOf, patternIn};
 ghost use Rattle.image.specs.Answers.{readOf, writeOf, imageAfter};
 use words::Wide;
@@ -72,7 +72,7 @@ fn number(image: &[u8]) -> Wide
 
 // The low byte.
 fn low_byte(v: Wide) -> u8
-    ensures { λ r. ⌜ r ≡ val v % 2 ^ 8 ⌝ }
+    ensures { λ r. ⌜ r ≡ val v % 256 ⌝ }
 {
     (v.lo & 255) as u8
 }

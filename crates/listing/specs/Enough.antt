@@ -12,7 +12,7 @@ use Rattle.lists.specs.Rows.{wrote}
 use Rattle.lists.specs.Steps.{Built}
 use Rattle.lists.specs.declared.State.{State}
 use Rattle.records.specs.Reading.{Reading, Got, Bad, _▹_, byteAt, testedAt, numberAt}
-use Rattle.records.specs.Format.{lettersAt, textAt, registerAt, memoryAt, operandAt, presentAt, recordAt, endAt, itemAt, answer, takenAt, other, noOperand}
+use Rattle.records.specs.Format.{lettersAt, textAt, registerAt, memoryAt, operandAt, presentAt, recordAt, endAt, itemAt, answer, takenAt, other, absent}
 use Rattle.records.specs.declared.Cursor.{Cursor}
 use Rattle.records.specs.declared.Refusal.{Refusal}
 use Rattle.records.specs.declared.Refusal.the-variants.{Short}
@@ -55,8 +55,7 @@ module _ (s : List ℕ) where
 
   number : (k at : ℕ) → Past at (numberAt k s at)
   unfolding numberAt
-  number zero at = got 0 (omega arith)
-  number (suc k) at = seq (byteAt s at) _ (byte at) (λ b n h. seq (numberAt k s n) _ (number k n) (λ v m g. got _ (omega arith)))
+  number k at = either (leb (at + k) (length s)) (got _ (omega arith)) (refused _ _ _)
 
   letters : (k at : ℕ) → Past at (lettersAt k s at)
   unfolding lettersAt
@@ -90,7 +89,7 @@ module _ (s : List ℕ) where
 
   present : (b : Bool) (at : ℕ) → Past at (presentAt b s at)
   unfolding presentAt
-  present b at = either b (operand at) (got noOperand (omega arith))
+  present b at = either b (operand at) (got absent (omega arith))
 
 -- where a record was read, the next place is p or behind it
 record Behind (p : ℕ) (r : Reading Taken) : Type 0 where

@@ -1,15 +1,11 @@
 -- What a lift looks at in an instruction beyond its form
-use mathlib.Core.List.{[]}
 use Prim.Native.Nat.{ℕ}
 use lib.Dec.{eqb}
 use lib.ListN.{getD}
+use Rattle.forms.specs.Operands.{noOperand}
 use Rattle.forms.specs.declared.Operand.{Operand}
 use Rattle.forms.specs.declared.Instruction.{Instruction}
 use Rattle.memory.specs.declared.Site.{Site}
-
--- An operand that says nothing: it stands for the first of none
-abbrev noOperand : Operand
-noOperand = record { kind = 0; text = record { bytes = []; len = 0 }; width = 0; known = 0; address = 0; slot = 0 }
 
 abbrev siteAt : ℕ → Operand → Site
 siteAt address o = record { address = address; memory = o .address; slot = o .slot; register = eqb (o .kind) 0 }

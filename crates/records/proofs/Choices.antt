@@ -7,7 +7,7 @@ use lib.Dec.{eqb}
 use borrow.Author.Tests.{eq-eqb, ne-eqb}
 use Rattle.records.specs.Reading.{Got, _▹_, limitedAt, eitherAt}
 use Rattle.records.specs.Format.{other, registerAt, memoryAt, operandAt, recordAt, endAt, itemAt}
-use Rattle.records.specs.Steps.{read, on}
+use Rattle.records.specs.Inside.Steps.{read, on}
 use Rattle.records.specs.declared.Next.{Next}
 use Rattle.records.specs.declared.Next.the-variants.{At}
 use Rattle.records.specs.declared.Refusal.the-variants.{BadOperand}

@@ -11,7 +11,7 @@ use Rattle.records.specs.Reading.{Reading, Got, Bad, _▹_, limitedAt}
 use Rattle.texts.specs.declared.Text.{Text}
 use Rattle.records.specs.Format.{lettersAt, textOf}
 use Rattle.records.proofs.Sequence.{then, on-got}
-use Rattle.records.specs.Steps.{read, on}
+use Rattle.records.specs.Inside.Steps.{read, on}
 use Rattle.records.specs.declared.Next.{Next}
 use Rattle.records.specs.declared.Next.the-variants.{At, Stop}
 use Rattle.records.specs.declared.Refusal.the-variants.{BadText}

@@ -2,7 +2,7 @@
 use mathlib.Core.Path.{_≡_, refl, sym, _∙_, ap}
 use Prim.Native.Nat.{ℕ}
 use Rattle.records.specs.Reading.{Reading, Got, _▹_}
-use Rattle.records.specs.Steps.{read, on}
+use Rattle.records.specs.Inside.Steps.{read, on}
 use Rattle.records.specs.declared.Next.{Next}
 use Rattle.records.specs.declared.Next.the-variants.{At, Stop}
 

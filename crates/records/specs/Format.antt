@@ -38,8 +38,9 @@ memory w k a n = record { kind = 1; text = noText; width = w; known = k; address
 abbrev pub other : Operand
 other = record { kind = 2; text = noText; width = 0; known = 0; address = 0; slot = 0 }
 
-abbrev pub noOperand : Operand
-noOperand = register noText
+-- an operand that a record does not carry
+abbrev pub absent : Operand
+absent = register noText
 
 unfoldable pub registerAt : List ℕ → ℕ → Reading Operand
 registerAt s at = textAt s at ▹ λ t end. Got (register t) end
@@ -57,10 +58,10 @@ operandAt s at =
 
 -- an operand that stands there or not
 unfoldable pub presentAt : Bool → List ℕ → ℕ → Reading Operand
-presentAt b s at = cond b (operandAt s at) (Got noOperand at)
+presentAt b s at = cond b (operandAt s at) (Got absent at)
 
 abbrev pub noInstruction : Instruction
-noInstruction = record { operands = noOperand ∷ noOperand ∷ noOperand ∷ []; count = 0; mnemonic = noText; address = 0 }
+noInstruction = record { operands = absent ∷ absent ∷ absent ∷ []; count = 0; mnemonic = noText; address = 0 }
 
 -- a record that ends before the place n
 abbrev pub took : Instruction → ℕ → Reading Taken

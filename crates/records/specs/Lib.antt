@@ -1,4 +1,5 @@
 pub mod Reading
-pub mod Steps
 pub mod Format
 pub mod Numbers
+-- how the code does it: no public promise rests on this
+pub mod Inside

@@ -1,9 +1,10 @@
 -- Reading bytes from a place on, one at a time.
 use mathlib.Core.Bool.{Bool, cond, _||_}
 use mathlib.Core.List.{List}
-use Prim.Native.Nat.{ℕ, zero, suc, _+_, _*_}
+use Prim.Native.Nat.{ℕ, _+_}
 use lib.Dec.{leb, ltb, eqb}
 use lib.ListN.{length, getD}
+use Rattle.words.specs.Bytes.{numberIn}
 use Rattle.records.specs.declared.Refusal.{Refusal}
 use Rattle.records.specs.declared.Refusal.the-variants.{BadMark, Short}
 
@@ -34,7 +35,6 @@ limitedAt m r = testedAt (λ b. leb b m) r
 abbrev pub eitherAt : ℕ → ℕ → List ℕ → ℕ → Reading ℕ
 eitherAt x y = testedAt (λ b. eqb b x || eqb b y) BadMark
 
--- a number of n bytes, low byte first
+-- the number of the n bytes at a place, low byte first; past the end as for one byte
 unfoldable pub numberAt : ℕ → List ℕ → ℕ → Reading ℕ
-numberAt zero s at = Got 0 at
-numberAt (suc n) s at = byteAt s at ▹ λ b next. numberAt n s next ▹ λ v end. Got (b + 256 * v) end
+numberAt n s at = cond (leb (at + n) (length s)) (Got (numberIn s at n) (at + n)) (Bad Short (length s))

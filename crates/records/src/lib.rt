@@ -3,9 +3,9 @@ ghost use mathlib.Core.Path.{_≡_};
 ghost use Prim.Native.Nat.{_^_, _<_, _≤_};
 ghost use lib.ListN.{length};
 ghost use Rattle.records.specs.Reading.{limitedAt, eitherAt, numberAt};
-ghost use Rattle.records.specs.Format.{noText, noOperand, noInstruction, textAt, registerAt, memoryAt, operandAt, presentAt, recordAt, endAt, answer, took, takenAt};
+ghost use Rattle.records.specs.Format.{noText, absent, noInstruction, textAt, registerAt, memoryAt, operandAt, presentAt, recordAt, endAt, answer, took, takenAt};
 ghost use Rattle.records.specs.Numbers.{refusalOf};
-ghost use Rattle.records.specs.Steps.{read, on};
+ghost use Rattle.records.specs.Inside.Steps.{read, on};
 use forms::Instruction;
 use forms::Operand;
 use texts::Text;
@@ -222,7 +222,7 @@ fn no_text() -> Text
 }
 
 fn no_operand() -> Operand
-    ensures { λ r. ⌜ r ≡ noOperand ⌝ }
+    ensures { λ r. ⌜ r ≡ absent ⌝ }
 {
     let t = no_text();
     Operand {

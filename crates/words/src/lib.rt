@@ -1,11 +1,11 @@
-// Numbers of up to 128 bits in two words. Each promise is on the number that the words hold.
+// Numbers of up to 128 bits in two words. Each promise gives the words themselves, as those of a number.
 pub mod bytes;
 
 ghost use mathlib.Core.Path.{_≡_};
 ghost use Prim.Native.Nat.{ℕ, _*_, _/_, _%_, _^_};
 ghost use lib.Bits.{bitAnd, bitOr, bitXor};
 ghost use lib.Dec.{ltb, eqb};
-ghost use Rattle.words.specs.Wide.{val, extractOf, concatOf};
+ghost use Rattle.words.specs.Wide.{val, wideOf, extractOf, concatOf};
 
 // A number of up to 128 bits: its low word and its high word.
 pub struct Wide {
@@ -22,7 +22,7 @@ pub fn low_word(x: Wide) -> u64
 
 // Each bit where both have it.
 pub fn and(x: Wide, y: Wide) -> Wide
-    ensures { λ r. ⌜ val r ≡ bitAnd (val x) (val y) ⌝ }
+    ensures { λ r. ⌜ r ≡ wideOf (bitAnd (val x) (val y)) ⌝ }
 {
     Wide {
         lo: x.lo & y.lo,
@@ -32,7 +32,7 @@ pub fn and(x: Wide, y: Wide) -> Wide
 
 // Each bit where one of them has it.
 pub fn or(x: Wide, y: Wide) -> Wide
-    ensures { λ r. ⌜ val r ≡ bitOr (val x) (val y) ⌝ }
+    ensures { λ r. ⌜ r ≡ wideOf (bitOr (val x) (val y)) ⌝ }
 {
     Wide {
         lo: x.lo | y.lo,
@@ -42,7 +42,7 @@ pub fn or(x: Wide, y: Wide) -> Wide
 
 // Each bit where exactly one of them has it.
 pub fn xor(x: Wide, y: Wide) -> Wide
-    ensures { λ r. ⌜ val r ≡ bitXor (val x) (val y) ⌝ }
+    ensures { λ r. ⌜ r ≡ wideOf (bitXor (val x) (val y)) ⌝ }
 {
     Wide {
         lo: x.lo ^ y.lo,
@@ -52,7 +52,7 @@ pub fn xor(x: Wide, y: Wide) -> Wide
 
 // The bits from bit k on; none from bit 128 on.
 pub fn shr(x: Wide, k: u64) -> Wide
-    ensures { λ r. ⌜ val r ≡ val x / 2 ^ k ⌝ }
+    ensures { λ r. ⌜ r ≡ wideOf (val x / 2 ^ k) ⌝ }
 {
     if k == 0 {
         return x;
@@ -74,7 +74,7 @@ pub fn shr(x: Wide, k: u64) -> Wide
 
 // All bits k places up; those past bit 127 are lost.
 pub fn shl(x: Wide, k: u64) -> Wide
-    ensures { λ r. ⌜ val r ≡ val x * 2 ^ k % 2 ^ 128 ⌝ }
+    ensures { λ r. ⌜ r ≡ wideOf (val x * 2 ^ k % 2 ^ 128) ⌝ }
 {
     if k == 0 {
         return x;
@@ -96,7 +96,7 @@ pub fn shl(x: Wide, k: u64) -> Wide
 
 // The low k bits; all of them from 128 on.
 pub fn low(x: Wide, k: u64) -> Wide
-    ensures { λ r. ⌜ val r ≡ val x % 2 ^ k ⌝ }
+    ensures { λ r. ⌜ r ≡ wideOf (val x % 2 ^ k) ⌝ }
 {
     if k < 64 {
         return Wide {
@@ -115,7 +115,7 @@ pub fn low(x: Wide, k: u64) -> Wide
 
 // Bits hi down to lo; none where lo is over hi.
 pub fn extract(x: Wide, hi: u64, lo: u64) -> Wide
-    ensures { λ r. ⌜ val r ≡ extractOf (val x) hi lo ⌝ }
+    ensures { λ r. ⌜ r ≡ wideOf (extractOf (val x) hi lo) ⌝ }
 {
     if hi < 127 {
         shr(low(x, hi + 1), lo)
@@ -126,7 +126,7 @@ pub fn extract(x: Wide, hi: u64, lo: u64) -> Wide
 
 // x above the low k bits of y; what passes bit 127 is lost.
 pub fn concat(x: Wide, y: Wide, k: u64) -> Wide
-    ensures { λ r. ⌜ val r ≡ concatOf (val x) (val y) k % 2 ^ 128 ⌝ }
+    ensures { λ r. ⌜ r ≡ wideOf (concatOf (val x) (val y) k % 2 ^ 128) ⌝ }
 {
     or(shl(x, k), low(y, k))
 }

@@ -16,7 +16,8 @@ use Rattle.forms.specs.declared.RoundingMode.the-variants.{NearestTiesEven, Tow
 use Rattle.forms.specs.declared.X87Condition.{X87Condition}
 use Rattle.forms.specs.declared.X87Condition.the-variants.{Below, Equal, BelowOrEqual, Unordered, NotBelow, NotEqual, NotBelowOrEqual, NotUnordered}
 use Rattle.forms.specs.declared.MemFormat.the-variants.{Float, Integer}
-use Rattle.exprs.specs.Formats.{extended, formatOf, roundingOf}
+use Rattle.forms.specs.Numbers.{roundingNumber}
+use Rattle.exprs.specs.Formats.{extended, formatOf}
 use Rattle.exprs.specs.Slots.{floatToSlotOf, integerToSlotOf, narrowedOf}
 use Rattle.exprs.specs.Image.{extendedFromMemoryOf, extendedToMemoryOf}
 use Rattle.exprs.specs.Operations.{extendedArithOf, unaryOf, unorderedOf, flagIsOf, predicateOf}
@@ -77,8 +78,7 @@ pub integer-to-slot : (s : State) (raw bits : ℕ) → isWord bits ≡ true → 
 unfolding integerToSlotOf
 integer-to-slot s raw bits e = next _ (node (0 ∷ []) (sbv-to-fp e refl)) (λ s x. node (1 ∷ []) (fp-to-bv refl))
 
-rounding-small : (r : RoundingMode) → leb (roundingOf r) 1 ≡ true
-unfolding roundingOf
+rounding-small : (r : RoundingMode) → leb (roundingNumber r) 1 ≡ true
 rounding-small NearestTiesEven = refl
 rounding-small TowardZero = refl
 

@@ -8,11 +8,12 @@ use native.Mathlib.Omega.{arith}
 use borrow.Author.Tests.{leb-true}
 use lib.Dec.{leb, ltb, eqb}
 use lib.ListN.{length, getD, replicate, length-append, length-replicate}
+use Rattle.words.specs.Bytes.{numberIn}
 use Rattle.texts.specs.declared.Text.{Text}
 use Rattle.forms.specs.declared.Operand.{Operand}
 use Rattle.forms.specs.declared.Instruction.{Instruction}
 use Rattle.records.specs.Reading.{Reading, Got, Bad, _▹_, byteAt, testedAt, limitedAt, eitherAt, numberAt}
-use Rattle.records.specs.Format.{lettersAt, textAt, noText, register, other, noOperand, registerAt, memoryAt, operandAt, presentAt, noInstruction, recordAt, endAt, itemAt, answer, takenAt}
+use Rattle.records.specs.Format.{lettersAt, textAt, noText, register, other, absent, registerAt, memoryAt, operandAt, presentAt, noInstruction, recordAt, endAt, itemAt, answer, takenAt}
 use Rattle.records.specs.declared.Refusal.{Refusal}
 use Rattle.records.specs.declared.Refusal.the-variants.{BadText, BadOperand, BadMark, Short}
 use Rattle.records.specs.declared.Outcome.the-variants.{End}
@@ -86,13 +87,17 @@ module _ (s : List ℕ) (b : Bytes s) where
   unfolding byteAt
   byte-gives at = either (Below 256) (ltb at (length s)) (Got (getD s at 0) (at + 1)) (Bad Short (length s)) (got _ _ _ (b at)) (bad _ _ _)
 
+  number-below : (n at : ℕ) → numberIn s at n < 256 ^ n
+  number-below zero at = omega arith
+  number-below (suc n) at =
+      let h = b at in
+      let k = number-below n (at + 1) in
+      rw (pow-suc 256 n) (omega arith)
+
   number-gives : (n at : ℕ) → Gives (Below (256 ^ n)) (numberAt n s at)
   unfolding numberAt
-  number-gives zero at = got _ _ _ (omega arith)
-  number-gives (suc n) at =
-      after (Below 256) (Below (256 ^ suc n)) (byteAt s at) _ (byte-gives at) (λ x next p.
-      after (Below (256 ^ n)) (Below (256 ^ suc n)) (numberAt n s next) _ (number-gives n next) (λ v end q.
-      got _ _ _ (rw (pow-suc 256 n) (omega arith))))
+  number-gives n at =
+      either (Below (256 ^ n)) (leb (at + n) (length s)) (Got (numberIn s at n) (at + n)) (Bad Short (length s)) (got _ _ _ (number-below n at)) (bad _ _ _)
 
   tested : (m x next at : ℕ) (r : Refusal) (t : Bool) → leb x m ≡ t → Gives (Below (suc m)) (cond t (Got x next) (Bad r at))
   tested m x next at r true e = let h = leb-true x m e in got _ _ _ (omega arith)
@@ -152,7 +157,7 @@ module _ (s : List ℕ) (b : Bytes s) where
 
   present-gives : (t : Bool) (at : ℕ) → Gives OperandFits (presentAt t s at)
   unfolding presentAt
-  present-gives t at = either OperandFits t (operandAt s at) (Got noOperand at) (operand-gives at) (got _ _ _ (register-fits noText no-text))
+  present-gives t at = either OperandFits t (operandAt s at) (Got absent at) (operand-gives at) (got _ _ _ (register-fits noText no-text))
 
   no-fits : InsnFits noInstruction
   no-fits =

@@ -28,7 +28,7 @@ use Rattle.lifter.specs.Apply.{applyX87Of}
 use Rattle.lifter.specs.Lift.{liftOf}
 use Rattle.memory.specs.Site.{siteOf}
 use Rattle.words.specs.Wide.{wideOf}
-use Rattle.image.specs.Bytes.{littleEndian, bytesOf}
+use Rattle.words.specs.Bytes.{littleEndian, bytesOf}
 use Rattle.image.specs.Layout.{imageOf, patternIn}
 use Rattle.image.specs.Answers as image
 use Rattle.image.specs.declared.Found.the-variants.{Pattern}

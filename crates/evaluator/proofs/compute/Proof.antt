@@ -1,6 +1,7 @@
 use mathlib.Core.Path.{_∙_}
 use native.Mathlib.Nat.{mod-eq-of-lt}
 use borrow.Author.Tests.{ne-eqb}
+use Rattle.words.specs.Wide.{val-of}
 use Rattle.evaluator.specs.Value.{computed}
 use borrow.Author.Needs.{needs}
 use Rattle.evaluator.proofs.compute.Statement.{statement}
@@ -81,11 +82,11 @@ returns c = rw (c .match .keys1)
 
 returns-2 : tie.Need-returns-2
 unfolding computed
-returns-2 c = rw (c .before .match .keys2, c .and .ensures)
+returns-2 c = rw (c .before .match .keys2, val-of _ _ (c .and .ensures))
 
 returns-3 : tie.Need-returns-3
 unfolding computed
-returns-3 c = rw (c .before .match .keys3, c .xor .ensures)
+returns-3 c = rw (c .before .match .keys3, val-of _ _ (c .xor .ensures))
 
 returns-4 : tie.Need-returns-4
 unfolding computed
@@ -109,11 +110,11 @@ returns-8 c = rw (c .before .before .match .keys8, c .choose .ensures, c .before
 
 returns-9 : tie.Need-returns-9
 unfolding computed
-returns-9 c = rw (c .before .match .keys9, c .extract .ensures)
+returns-9 c = rw (c .before .match .keys9, val-of _ _ (c .extract .ensures))
 
 returns-10 : tie.Need-returns-10
 unfolding computed
-returns-10 c = rw (c .before .match .keys10) (c .concat .ensures ∙ mod-eq-of-lt (c .before .before .pre (c .before .match .keys10)))
+returns-10 c = rw (c .before .match .keys10) (val-of _ _ (c .concat .ensures) ∙ mod-eq-of-lt (c .before .before .pre (c .before .match .keys10)))
 
 returns-11 : tie.Need-returns-11
 unfolding computed

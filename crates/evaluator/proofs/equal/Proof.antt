@@ -1,5 +1,5 @@
 use mathlib.Core.Path.{sym}
-use Rattle.words.specs.Wide.{val}
+use Rattle.words.specs.Wide.{val, val-of}
 use Rattle.evaluator.specs.Order.{eq-law}
 use borrow.Author.Needs.{needs}
 use Rattle.evaluator.proofs.equal.Statement.{statement}
@@ -35,7 +35,7 @@ eq-requires-2 c κs = search needs
 returns : tie.Need-returns
 returns c =
     let a = c .before .before .before .before .before .before .before .before .before .args in
-    rw (c .eq2 .ensures, c .before .low2 .ensures, c .before .before .is-nan2 .ensures, c .before .before .before .is-nan .ensures, c .before .before .before .before .negative2 .ensures, c .before .before .before .before .before .negative .ensures, c .before .before .before .before .before .before .eq .ensures, c .before .before .before .before .before .before .before .low .ensures, c .before .before .before .before .before .before .before .before .sign-place .ensures)
+    rw (c .eq2 .ensures, val-of _ _ (c .before .low2 .ensures), c .before .before .is-nan2 .ensures, c .before .before .before .is-nan .ensures, c .before .before .before .before .negative2 .ensures, c .before .before .before .before .before .negative .ensures, c .before .before .before .before .before .before .eq .ensures, val-of _ _ (c .before .before .before .before .before .before .before .low .ensures), c .before .before .before .before .before .before .before .before .sign-place .ensures)
     (sym (eq-law (a .f) (val (a .x)) (val (a .y))))
 
 pub equal-spec : {M : Type 1} → statement M

@@ -1,5 +1,5 @@
 use mathlib.Core.Path.{sym}
-use Rattle.words.specs.Wide.{val}
+use Rattle.words.specs.Wide.{val, val-of}
 use Rattle.evaluator.specs.Order.{nan-law}
 use borrow.Author.Needs.{needs}
 use Rattle.evaluator.proofs.is_nan.Statement.{statement}
@@ -20,7 +20,7 @@ lt-requires c κs = search needs
 returns : tie.Need-returns
 returns c =
     let a = c .before .before .before .before .args in
-    rw (c .lt .ensures, c .before .before .before .infinity .ensures, c .before .low .ensures, c .before .before .sign-place .ensures)
+    rw (c .lt .ensures, c .before .before .before .infinity .ensures, val-of _ _ (c .before .low .ensures), c .before .before .sign-place .ensures)
     (sym (nan-law (a .f) (val (a .v))))
 
 pub is-nan-spec : {M : Type 1} → statement M

@@ -1,5 +1,5 @@
 use mathlib.Core.Path.{sym}
-use Rattle.words.specs.Wide.{val}
+use Rattle.words.specs.Wide.{val, val-of}
 use Rattle.evaluator.specs.Order.{lt-law}
 use borrow.Author.Needs.{needs}
 use Rattle.evaluator.proofs.less.Statement.{statement}
@@ -32,7 +32,7 @@ is-nan-requires-2 c κs = search needs
 returns : tie.Need-returns
 returns c =
     let a = c .before .before .before .before .before .before .before .before .args in
-    rw (c .is-nan2 .ensures, c .before .is-nan .ensures, c .before .before .below .ensures, c .before .before .before .low2 .ensures, c .before .before .before .before .negative2 .ensures, c .before .before .before .before .before .low .ensures, c .before .before .before .before .before .before .negative .ensures, c .before .before .before .before .before .before .before .sign-place .ensures)
+    rw (c .is-nan2 .ensures, c .before .is-nan .ensures, c .before .before .below .ensures, val-of _ _ (c .before .before .before .low2 .ensures), c .before .before .before .before .negative2 .ensures, val-of _ _ (c .before .before .before .before .before .low .ensures), c .before .before .before .before .before .before .negative .ensures, c .before .before .before .before .before .before .before .sign-place .ensures)
     (sym (lt-law (a .f) (val (a .x)) (val (a .y))))
 
 pub less-spec : {M : Type 1} → statement M

@@ -1,4 +1,3 @@
-use Rattle.exprs.specs.Formats.{roundingOf}
 use borrow.Author.Needs.{needs}
 use Rattle.exprs.proofs.rounding_number.Statement.{statement}
 use Rattle.exprs.proofs.rounding_number.Tie as tie
@@ -10,11 +9,9 @@ enum-told-2 : tie.Need-enum-told-2
 enum-told-2 c = search needs
 
 returns : tie.Need-returns
-unfolding roundingOf
 returns c = rw (c .enum-told .given .1)
 
 returns-2 : tie.Need-returns-2
-unfolding roundingOf
 returns-2 c = rw (c .enum-told2 .given .1)
 
 pub rounding-number-spec : {M : Type 1} → statement M

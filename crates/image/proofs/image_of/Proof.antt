@@ -2,7 +2,7 @@ use mathlib.Core.Path.{_≡_, ap}
 use lib.Pow.{field}
 use Rattle.image.proofs.Words.{image-words}
 use mathlib.Core.Path.{_∙_, sym}
-use Rattle.words.specs.Wide.{val}
+use Rattle.words.specs.Wide.{val, val-of}
 use Rattle.image.specs.Laws.{image-top, bit-small}
 use Rattle.image.specs.Layout.{exponentOf, integerBit}
 use borrow.Author.Needs.{needs}
@@ -28,8 +28,8 @@ returns : tie.Need-returns
 returns c =
     let p = val (c .before .before .before .before .before .args .p) in
     let b : val (c .before .before .before .integer-bit .result) ≡ integerBit (exponentOf p) =
-    c .before .before .before .integer-bit .ensures ∙ ap integerBit (c .before .before .before .before .extract .ensures ∙ field p 15 63) in
-    rw (c .concat2 .ensures, c .before .concat .ensures, c .before .before .shr .ensures, b)
+    c .before .before .before .integer-bit .ensures ∙ ap integerBit (val-of _ _ (c .before .before .before .before .extract .ensures) ∙ field p 15 63) in
+    rw (val-of _ _ (c .concat2 .ensures), val-of _ _ (c .before .concat .ensures), val-of _ _ (c .before .before .shr .ensures), b)
     (image-words p (integerBit (exponentOf p)) (c .before .before .before .before .before .pre) (bit-small (exponentOf p)) ∙ sym (image-top p))
 
 pub image-of-spec : {M : Type 1} → statement M

@@ -5,7 +5,7 @@ use Rattle.image.specs.Layout.{integerBit, hasNumber}
 use Rattle.image.proofs.Words.{pattern-words, test}
 use mathlib.Core.Path.{_∙_, sym}
 use native.Mathlib.Omega.{arith}
-use Rattle.words.specs.Wide.{val}
+use Rattle.words.specs.Wide.{val, val-of}
 use Rattle.image.specs.Layout.{patternIn}
 use borrow.Author.Needs.{needs}
 use Rattle.image.proofs.pattern.Statement.{statement}
@@ -37,15 +37,15 @@ unfolding patternIn
 returns c =
     let v = val (c .before .before .before .before .before .before .before .args .v) in
     let t : c .before .before .before .eq .result ≡ hasNumber v =
-    test v _ _ (c .before .before .before .eq .result) (c .before .before .before .before .extract2 .ensures) (c .before .before .before .before .before .integer-bit .ensures ∙ ap integerBit (c .before .before .before .before .before .before .extract .ensures)) (c .before .before .before .eq .ensures) in
-    rw (c .concat .ensures, c .before .shr .ensures, sym t ∙ c .before .before .if1 .taken) (pattern-words v (two-words (c .before .before .before .before .before .before .before)))
+    test v _ _ (c .before .before .before .eq .result) (val-of _ _ (c .before .before .before .before .extract2 .ensures)) (c .before .before .before .before .before .integer-bit .ensures ∙ ap integerBit (val-of _ _ (c .before .before .before .before .before .before .extract .ensures))) (c .before .before .before .eq .ensures) in
+    rw (val-of _ _ (c .concat .ensures), val-of _ _ (c .before .shr .ensures), sym t ∙ c .before .before .if1 .taken) (pattern-words v (two-words (c .before .before .before .before .before .before .before)))
 
 returns-2 : tie.Need-returns-2
 unfolding patternIn
 returns-2 c =
     let v = val (c .before .before .before .before .before .args .v) in
     let t : c .before .eq .result ≡ hasNumber v =
-    test v _ _ (c .before .eq .result) (c .before .before .extract2 .ensures) (c .before .before .before .integer-bit .ensures ∙ ap integerBit (c .before .before .before .before .extract .ensures)) (c .before .eq .ensures) in
+    test v _ _ (c .before .eq .result) (val-of _ _ (c .before .before .extract2 .ensures)) (c .before .before .before .integer-bit .ensures ∙ ap integerBit (val-of _ _ (c .before .before .before .before .extract .ensures))) (c .before .eq .ensures) in
     rw (sym t ∙ c .if1 .left)
 
 pub pattern-spec : {M : Type 1} → statement M

@@ -4,8 +4,8 @@ use mathlib.Core.Path.{_≡_, refl, _∙_}
 use native.Mathlib.Omega.{arith}
 use Prim.Native.Nat.{_≤_, _-_, _+_}
 use lib.ListN.{take, drop, length, length-set}
-use Rattle.words.specs.Wide.{val}
-use Rattle.image.specs.Bytes.{bytesOf}
+use Rattle.words.specs.Wide.{val, val-of}
+use Rattle.words.specs.Bytes.{bytesOf}
 use Rattle.image.proofs.Loops.{put-more, rest-more, put-ends}
 use Rattle.image.proofs.put.Statement.{statement}
 use Rattle.image.proofs.put.Tie as tie
@@ -41,7 +41,7 @@ loop-again c =
     let e = c .before .low-byte .ensures in (
       omega arith,
       simp length-set (l .inv .1),
-      rw (e, c .shr .ensures) (put-more (l .image) (l .i) (val (l .rest)) (omega arith) (omega arith) ∙ l .inv .2),
+      rw (e, val-of _ _ (c .shr .ensures)) (put-more (l .image) (l .i) (val (l .rest)) (omega arith) (omega arith) ∙ l .inv .2),
       rest-more (l .image) (a .image .now) (l .i) (c .before .low-byte .result) (l .inv .3),
     )
 

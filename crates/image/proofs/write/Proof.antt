@@ -4,7 +4,7 @@ use Prim.Native.Nat.{ℕ, _^_}
 use lib.ListN.{drop}
 use borrow.Author.Tests.{lt-ltb, le-ltb, ltb-true}
 use Rattle.words.specs.Wide.{val}
-use Rattle.image.specs.Bytes.{bytesOf}
+use Rattle.words.specs.Bytes.{bytesOf}
 use Rattle.image.specs.Answers.{writeOf, imageAfter}
 use borrow.Author.Needs.{needs}
 use Rattle.image.proofs.write.Statement.{statement}

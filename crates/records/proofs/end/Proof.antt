@@ -1,5 +1,5 @@
 use borrow.Author.Tests.{eq-eqb, ne-eqb}
-use Rattle.records.specs.Steps.{on}
+use Rattle.records.specs.Inside.Steps.{on}
 use Rattle.records.specs.Format.{answer, endAt}
 use borrow.Author.Needs.{needs}
 use Rattle.records.proofs.end.Statement.{statement}

@@ -1,4 +1,4 @@
-use Rattle.records.specs.Steps.{on}
+use Rattle.records.specs.Inside.Steps.{on}
 use Rattle.records.specs.Format.{answer}
 use borrow.Author.Needs.{needs}
 use Rattle.records.proofs.finish.Statement.{statement}

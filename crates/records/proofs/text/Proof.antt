@@ -5,7 +5,7 @@ use mathlib.Core.Path.{_≡_, refl, sym, _∙_}
 use Prim.Native.Nat.{_≤_, _-_}
 use native.Mathlib.Omega.{arith}
 use lib.ListN.{length, take, drop, replicate, length-set}
-use Rattle.records.specs.Steps.{on}
+use Rattle.records.specs.Inside.Steps.{on}
 use Rattle.records.specs.Format.{lettersAt, textAt}
 use Rattle.records.proofs.Letters.{behind, letters-start, letters-on, letters-end, zeros-on}
 use Rattle.records.proofs.text.Statement.{statement}

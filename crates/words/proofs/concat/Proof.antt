@@ -1,5 +1,6 @@
+use mathlib.Core.Path.{_∙_, ap}
 use native.Mathlib.Omega.{arith}
-use Rattle.words.specs.Wide.{val}
+use Rattle.words.specs.Wide.{val, wideOf, val-of}
 use Rattle.words.proofs.Shifts.{two-lt}
 use Rattle.words.proofs.Masks.{joined}
 use borrow.Author.Needs.{needs}
@@ -18,8 +19,9 @@ or-requires c κs = search needs
 returns : tie.Need-returns
 returns c =
     let a = c .before .before .before .args in
-    rw (c .or .ensures, c .before .before .shl .ensures, c .before .low .ensures)
-    (joined (a .k) (val (a .x)) (val (a .y)) (two-lt (omega arith) (omega arith)))
+    c .or .ensures
+    ∙ ap wideOf (rw (val-of _ _ (c .before .before .shl .ensures), val-of _ _ (c .before .low .ensures))
+    (joined (a .k) (val (a .x)) (val (a .y)) (two-lt (omega arith) (omega arith))))
 
 pub concat-spec : {M : Type 1} → statement M
 concat-spec = tie.close (tie.spec shl-requires low-requires or-requires returns)

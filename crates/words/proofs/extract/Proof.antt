@@ -1,3 +1,4 @@
+use Rattle.words.specs.Wide.{wideOf, val-of}
 use mathlib.Core.Path.{sym, ap, _∙_}
 use native.Mathlib.Nat.{mod-eq-of-lt}
 use native.Mathlib.Omega.{arith}
@@ -21,13 +22,13 @@ shr-requires-2 : tie.Need-shr-requires-2
 shr-requires-2 c κs = search needs
 
 returns : tie.Need-returns
-returns c = rw (c .shr .ensures, c .before .low .ensures)
+returns c = c .shr .ensures ∙ ap (λ (n : ℕ). wideOf (n / 2 ^ c .before .before .before .args .lo)) (val-of _ _ (c .before .low .ensures))
 
 returns-2 : tie.Need-returns-2
 returns-2 c =
     let a = c .before .before .args in
     c .shr2 .ensures
-    ∙ ap (λ (n : ℕ). n / 2 ^ a .lo) (sym (mod-eq-of-lt (whole (a .hi + 1) (two-lt (omega arith) (omega arith)) (omega arith))))
+    ∙ ap (λ (n : ℕ). wideOf (n / 2 ^ a .lo)) (sym (mod-eq-of-lt (whole (a .hi + 1) (two-lt (omega arith) (omega arith)) (omega arith))))
 
 pub extract-spec : {M : Type 1} → statement M
 extract-spec =

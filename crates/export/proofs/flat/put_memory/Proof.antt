@@ -1,5 +1,6 @@
 use mathlib.Core.Path.{refl}
 use native.Mathlib.Omega.{arith}
+use Rattle.words.specs.Bytes.{bytesOf}
 use Rattle.export.specs.Flat.{memoryFlat}
 use Rattle.export.proofs.Places.{run}
 use borrow.Author.Needs.{needs}
@@ -43,7 +44,7 @@ same-length : tie.Need-same-length
 same-length c = search needs
 
 returns : tie.Need-returns
-unfolding memoryFlat
+unfolding memoryFlat bytesOf
 returns c =
     let d = c .before .before in
     let e = d .before .before .before .before .before in

@@ -1,7 +1,8 @@
 use mathlib.Core.List.{_++_}
 use mathlib.Core.Path.{refl}
 use native.Mathlib.Omega.{arith}
-use Rattle.export.specs.Flat.{low, textFlat, memoryFlat, operandFlat}
+use Rattle.words.specs.Bytes.{bytesOf}
+use Rattle.export.specs.Flat.{textFlat, memoryFlat, operandFlat}
 use Rattle.export.proofs.Places.{run, run-length}
 use borrow.Author.Needs.{needs}
 use Rattle.export.proofs.flat.put_operand.Statement.{statement}
@@ -29,14 +30,14 @@ same-length : tie.Need-same-length
 same-length c = search needs
 
 returns : tie.Need-returns
-unfolding memoryFlat operandFlat
+unfolding memoryFlat operandFlat bytesOf
 returns c =
     let d = c .before .before in
     let e = d .before .before .before .before in
     let f = e .before .before .before .before in
     let o = f .before .before .before .before .before .args .o in (
       run _ _ _ _ _ _ _ 1 refl refl (f .put .ensures) (run _ _ _ _ _ _ _ 33 (e .put-text .ensures .1) (omega arith) (e .put-text .ensures .0) (d .put-memory .ensures)),
-      run-length (low 1 (o .kind)) (textFlat (o .text) ++ memoryFlat o) 1 44 45 refl (run-length (textFlat (o .text)) (memoryFlat o) 33 11 44 (e .put-text .ensures .1) refl refl) refl,
+      run-length (bytesOf 1 (o .kind)) (textFlat (o .text) ++ memoryFlat o) 1 44 45 refl (run-length (textFlat (o .text)) (memoryFlat o) 33 11 44 (e .put-text .ensures .1) refl refl) refl,
     )
 
 pub put-operand-spec : {M : Type 1} → statement M

@@ -1,5 +1,6 @@
 use mathlib.Core.Path.{refl}
-use Rattle.export.specs.Flat.{low, textFlat}
+use Rattle.words.specs.Bytes.{bytesOf}
+use Rattle.export.specs.Flat.{textFlat}
 use Rattle.export.proofs.Places.{run, run-length}
 use borrow.Author.Needs.{needs}
 use Rattle.export.proofs.flat.put_text.Statement.{statement}
@@ -18,10 +19,10 @@ same-length : tie.Need-same-length
 same-length c = search needs
 
 returns : tie.Need-returns
-unfolding textFlat
+unfolding textFlat bytesOf
 returns c =
     let b = c .before .before .before .before .before .before in
-    (run _ _ _ _ _ _ _ 1 refl refl (b .put .ensures) (c .before .before .put-bytes .ensures .0), run-length (low 1 (b .before .before .before .before .args .t .len)) (b .before .before .before .before .args .t .bytes) 1 32 33 refl (c .before .before .put-bytes .ensures .1) refl)
+    (run _ _ _ _ _ _ _ 1 refl refl (b .put .ensures) (c .before .before .put-bytes .ensures .0), run-length (bytesOf 1 (b .before .before .before .before .args .t .len)) (b .before .before .before .before .args .t .bytes) 1 32 33 refl (c .before .before .put-bytes .ensures .1) refl)
 
 pub put-text-spec : {M : Type 1} → statement M
 put-text-spec =

@@ -1,4 +1,5 @@
 use mathlib.Core.Path.{refl}
+use Rattle.words.specs.Bytes.{bytesOf}
 use Rattle.export.specs.Flat.{flatOf}
 use Rattle.export.proofs.Places.{run}
 use borrow.Author.Needs.{needs}
@@ -36,7 +37,7 @@ same-length : tie.Need-same-length
 same-length c = search needs
 
 returns : tie.Need-returns
-unfolding flatOf
+unfolding flatOf bytesOf
 returns c =
     let z = c .before .before in
     let y = z .before .before .before .before in

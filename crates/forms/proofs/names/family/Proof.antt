@@ -1,12 +1,12 @@
 use borrow.Author.Needs.{needs}
-use Rattle.forms.proofs.names.family.Statement.{statement}
-use Rattle.forms.proofs.names.family.Tie as tie
 use mathlib.Core.Path.{_∙_, ap}
 use mathlib.Core.List.{map}
 use Prim.Native.Nat.{ℕ}
-use Rattle.forms.specs.Keys.{keyOf, nameKey, positionOf}
+use Rattle.forms.specs.Inside.Keys.{keyOf, familyIn, nameEntry}
 use Rattle.forms.specs.Names.{names}
 use Rattle.forms.proofs.Lookup.{found}
+use Rattle.forms.proofs.names.family.Statement.{statement}
+use Rattle.forms.proofs.names.family.Tie as tie
 
 trim-requires : tie.Need-trim-requires
 trim-requires c κs = search needs
@@ -24,7 +24,7 @@ returns : tie.Need-returns
 returns c =
     let k = c .before .before .key .ensures ∙ ap keyOf (c .before .before .before .trim .ensures) in
     c .family-from .ensures ∙ c .before .code-of .ensures
-    ∙ found _ _ (ap (λ (x : ℕ). positionOf x (map nameKey names)) k)
+    ∙ ap (λ (x : ℕ). familyIn x (map nameEntry names)) k ∙ found _
 
 pub family-spec : {M : Type 1} → statement M
 family-spec =

@@ -1,4 +1,4 @@
-use Rattle.forms.specs.Codes.{familyFrom}
+use Rattle.forms.specs.Inside.Codes.{familyFrom}
 use borrow.Author.Tests.{ne-eqb}
 use borrow.Author.Needs.{needs}
 use Rattle.forms.proofs.names.family_from.Statement.{statement}

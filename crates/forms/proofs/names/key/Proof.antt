@@ -6,15 +6,16 @@ use Prim.Native.Nat.{_≤_, _-_}
 use native.Mathlib.Omega.{arith}
 use lib.ListN.{length, drop, getD}
 use lib.Seq.{drop-length}
+use Rattle.words.specs.Bytes.{littleEndian}
 use Rattle.texts.specs.Bytes.{all}
 use Rattle.texts.specs.Letters.{lowerOf}
-use Rattle.forms.specs.Keys.{number, lowerIs}
+use Rattle.forms.specs.Inside.Keys.{lowerIs}
 use Rattle.forms.proofs.Lookup.{key-small, key-on, key-in, key-zero, key-long, key-whole, lower-byte}
 use Rattle.forms.proofs.names.key.Statement.{statement}
 use Rattle.forms.proofs.names.key.Tie as tie
 
 abbrev Inv-loop : tie.InvT-loop
-Inv-loop s n₀ i₀ n i = (i ≤ length s) × (length s ≤ 8) × (n ≡ number (map lowerOf (drop i s))) × (all lowerIs (drop i s) ≡ true)
+Inv-loop s n₀ i₀ n i = (i ≤ length s) × (length s ≤ 8) × (n ≡ littleEndian (map lowerOf (drop i s))) × (all lowerIs (drop i s) ≡ true)
 
 abbrev μ-loop : tie.MeasureT-loop
 μ-loop s n₀ i₀ n i = i

@@ -1,0 +1,3 @@
+-- How the code does it: no public promise rests on this.
+pub mod Keys
+pub mod Codes
