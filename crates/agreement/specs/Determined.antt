@@ -2,12 +2,13 @@
 -- Any two answers of a public call that meet its promise are equal, and so are the words that they leave in each slice that the call is lent.
 -- Each line quotes the call's `ensures`: a slice at entry has its own name, at exit the name with a prime
 use mathlib.Core.Path.{_≡_, sym, ap, _∙_}
-use mathlib.Core.Bool.{Bool}
+use mathlib.Core.Bool.{Bool, cond}
 use mathlib.Core.List.{List}
 use Prim.Native.Nat.{ℕ, _*_, _/_, _%_, _^_, _<_}
 use lib.Bits.{bitAnd, bitOr, bitXor}
 use lib.Dec.{ltb, eqb}
 use lib.ListN.{length}
+use lib.Seq.{sets}
 use denote.Ref.{RefT, now}
 use Rattle.texts.specs.Bytes as texts
 use Rattle.texts.specs.Letters.{lowerOf, blankIs, trimOf, sameLetters}
@@ -60,7 +61,7 @@ use Rattle.moves.specs.Moves.{x87ArithOf, x87CompareStatusOf, x87CompareFlagsOf
 use Rattle.moves.specs.Pushes.{declineX87Of, pushConstOf, pushSlotOf, pushMemoryOf}
 use Rattle.lifter.specs.Lift.{liftOf}
 use Rattle.listing.specs.Run.{Ran, Runs, runOf}
-use Rattle.listing.specs.Listing.{Lists, textOf}
+use Rattle.listing.specs.Listing.{Lists, textOf, numberOf}
 use Rattle.listing.specs.declared.Stop.{Stop}
 use Rattle.listing.specs.declared.Listed.{Listed}
 use Rattle.words.specs.Bytes.{numberIn}
@@ -72,15 +73,14 @@ use Rattle.image.specs.Answers.{imageAfter}
 use Rattle.image.specs.declared.Found.{Found}
 use Rattle.image.specs.declared.Written.{Written}
 use Rattle.sorts.specs.Sorts.{isFloat, patternWidth, sortRow}
-use Rattle.sorts.specs.Check.{checkOf, tabulateOf, tableAfter}
+use Rattle.sorts.specs.Check.{checkOf}
 use Rattle.sorts.specs.declared.Verdict.{Verdict}
 use Rattle.evaluator.specs.Outcome.{outcomeOf, columnAfter}
 use Rattle.evaluator.specs.declared.Outcome.{Outcome}
-use Rattle.export.specs.Answers.{Wrote, Classifies, Affects, Reads}
+use Rattle.export.specs.Answers.{Said, Tells, Classifies, Affects, ReadsRecord}
 use Rattle.export.specs.Lifts.{Lifted, Lifts, liftedOf}
 use Rattle.export.specs.Steps.{Stepped, Steps, steppedOf}
-use Rattle.export.specs.Values as values
-use Rattle.export.specs.Values.{Writes, Checks, Evaluates}
+use Rattle.export.specs.Values.{ReadsImage, WritesImage, ChecksNodes, EvaluatesNodes}
 
 -- A promise of an answer; of an answer and of what one, two, .. lent slices hold at exit
 abbrev pub Determined : {A : Type 0} → (A → Type 0) → Type 0
@@ -160,30 +160,33 @@ did-done r s l m p q = (done-same (p .state ∙ sym (q .state)) (p .number ∙ s
 told-done : {b : Built} {old : List ℕ} → Determined₁ (λ (r : Done) l. Told b (r .state) (r .answer) old l)
 told-done r s l m p q = (done-same (p .state ∙ sym (q .state)) (p .number ∙ sym (q .number)), cc)
 
-wrote : {ok : Bool} {n : ℕ} {words out : List ℕ} → Determined₁ (λ (r : ℕ) l. Wrote ok n words out r l)
-wrote r s l m p q = (p .answer ∙ sym (q .answer), p .stored ∙ sym (q .stored))
+tells : {k : ℕ} {x : Said} {out : List ℕ} → Determined₁ (λ (r : ℕ) l. Tells k x out r l)
+tells r s l m p q = (p .answer ∙ sym (q .answer), p .told ∙ sym (q .told))
 
-reads : {t : Taken} {flat out : List ℕ} → Determined₂ (λ (r : ℕ) l l₂. Reads t flat out r l l₂)
-reads r s l m l₂ m₂ p q = let w = wrote r s l₂ m₂ (p .told) (q .told) in (w .0, p .bytes ∙ sym (q .bytes), w .1)
+reads : {t : Taken} {flat out : List ℕ} → Determined₂ (λ (r : ℕ) l l₂. ReadsRecord t flat out r l l₂)
+reads r s l m l₂ m₂ p q = let w = tells r s l₂ m₂ (p .told) (q .told) in (w .0, p .bytes ∙ sym (q .bytes), w .1)
 
 lifts : {x : Lifted} → Determined₃ (λ (r : ℕ) l l₂ l₃. Lifts x r l l₂ l₃)
 lifts r s l m l₂ m₂ l₃ m₃ p q = (cc, cc, cc, cc)
 
-steps : {x : Stepped} {out : List ℕ} → Determined₄ (λ (r : ℕ) l l₂ l₃ l₄. Steps x out r l l₂ l₃ l₄)
+steps : {x : Stepped} {state nodes statements out : List ℕ} → Determined₄ (λ (r : ℕ) l l₂ l₃ l₄. Steps x state nodes statements out r l l₂ l₃ l₄)
 steps r s l m l₂ m₂ l₃ m₃ l₄ m₄ p q =
-    let w = lifts r s l m l₂ m₂ l₃ m₃ (p .lifts) (q .lifts) in (w .0, w .1, w .2, w .3, p .told ∙ sym (q .told))
+    let w = lifts r s l m l₂ m₂ l₃ m₃ (p .lifts) (q .lifts) in
+    (w .0, w .1, w .2, w .3, tells r s l₄ m₄ (p .told) (q .told) .1)
 
-writes : {b : List ℕ} {low high : ℕ} → Determined₁ (λ (r : ℕ) l. Writes b low high r l)
+writes : {b : List ℕ} {low high : ℕ} → Determined₁ (λ (r : ℕ) l. WritesImage b low high r l)
 writes r s l m p q = (cc, cc)
 
-evaluates : {w : List ℕ} {n : ℕ} {g col out : List ℕ} → Determined₂ (λ (r : ℕ) l l₂. Evaluates w n g col out r l l₂)
-evaluates r s l m l₂ m₂ p q = let w = wrote r s l₂ m₂ (p .told) (q .told) in (w .0, p .column ∙ sym (q .column), w .1)
+evaluates : {w : List ℕ} {n : ℕ} {g col out : List ℕ} → Determined₂ (λ (r : ℕ) l l₂. EvaluatesNodes w n g col out r l l₂)
+evaluates r s l m l₂ m₂ p q = let w = tells r s l₂ m₂ (p .told) (q .told) in (w .0, p .column ∙ sym (q .column), w .1)
 
 runs : {x : Ran} → Determined₂ (λ (r : Stop) l l₂. Runs x r l l₂)
 runs r s l m l₂ m₂ p q = (p .run ∙ sym (q .run), p .nodes ∙ sym (q .nodes), p .statements ∙ sym (q .statements))
 
 listed : {text old : List ℕ} → Determined₁ (λ (r : Listed) l. Lists text r old l)
-listed r s l m p q = (p .answer ∙ sym (q .answer), p .bytes ∙ sym (q .bytes))
+listed {text} {old} r s l m p q =
+    let e = p .answer ∙ sym (q .answer) in
+    (e, p .bytes ∙ ap (λ (x : Listed). cond (eqb (numberOf x) 0) (sets old 0 text) old) e ∙ sym (q .bytes))
 
 -- texts
 
@@ -530,13 +533,10 @@ sorts·pattern-width f = one
 pub sorts·sort-of : (k a b c xa xb xc : ℕ) → Determined (λ (r : ℕ). r ≡ sortRow k a b c xa xb xc)
 sorts·sort-of k a b c xa xb xc = one
 
-pub sorts·tabulate : (nodes : List ℕ) (count : ℕ) (t : List ℕ) → Determined₁ (λ (r : Verdict) t′. (r ≡ tabulateOf nodes count (length t)) × (t′ ≡ tableAfter r nodes count t))
-sorts·tabulate nodes count t = follows (λ r. tableAfter r nodes count t)
-
-pub sorts·check : (nodes : List ℕ) (count : ℕ) → Determined (λ (r : Verdict). r ≡ checkOf nodes count)
-sorts·check nodes count = one
-
 -- evaluator
+
+pub evaluator·check : (nodes : List ℕ) (count : ℕ) → Determined (λ (r : Verdict). r ≡ checkOf nodes count)
+evaluator·check nodes count = one
 
 pub evaluator·evaluate : (nodes : List ℕ) (count : ℕ) (given column : List ℕ) → Determined₁ (λ (r : Outcome) column′. (r ≡ outcomeOf nodes count given (length column)) × (column′ ≡ columnAfter r nodes count given column))
 evaluator·evaluate nodes count given column = follows (λ r. columnAfter r nodes count given column)
@@ -544,32 +544,32 @@ evaluator·evaluate nodes count given column = follows (λ r. columnAfter r node
 -- export
 
 pub export·x87-classify : (flat out : List ℕ) → Determined₁ (λ (r : ℕ) out′. Classifies flat out r out′)
-export·x87-classify flat out = wrote
+export·x87-classify flat out = tells
 
 pub export·x87-effect : (flat out : List ℕ) → Determined₁ (λ (r : ℕ) out′. Affects flat out r out′)
-export·x87-effect flat out = wrote
+export·x87-effect flat out = tells
 
-pub export·x87-read-record : (input : List ℕ) (at : ℕ) (flat out : List ℕ) → Determined₂ (λ (r : ℕ) flat′ out′. Reads (takenAt input at) flat out r flat′ out′)
+pub export·x87-read-record : (input : List ℕ) (at : ℕ) (flat out : List ℕ) → Determined₂ (λ (r : ℕ) flat′ out′. ReadsRecord (takenAt input at) flat out r flat′ out′)
 export·x87-read-record input at flat out = reads
 
 pub export·x87-lift : (flat state nodes statements : List ℕ) → Determined₃ (λ (r : ℕ) state′ nodes′ statements′. Lifts (liftedOf flat state nodes statements) r state′ nodes′ statements′)
 export·x87-lift flat state nodes statements = lifts
 
-pub export·x87-lift-record : (input : List ℕ) (at : ℕ) (state nodes statements out : List ℕ) → Determined₄ (λ (r : ℕ) state′ nodes′ statements′ out′. Steps (steppedOf (takenAt input at) at state nodes statements out) out r state′ nodes′ statements′ out′)
+pub export·x87-lift-record : (input : List ℕ) (at : ℕ) (state nodes statements out : List ℕ) → Determined₄ (λ (r : ℕ) state′ nodes′ statements′ out′. Steps (steppedOf (takenAt input at) at state nodes statements) state nodes statements out r state′ nodes′ statements′ out′)
 export·x87-lift-record input at state nodes statements out = steps
 
-pub export·x87-image-read : (image : List ℕ) (low high : ℕ) (out : List ℕ) → Determined₁ (λ (r : ℕ) out′. values.Reads image low high out r out′)
-unfolding values.Reads
-export·x87-image-read image low high out = wrote
+pub export·x87-image-read : (image : List ℕ) (low high : ℕ) (out : List ℕ) → Determined₁ (λ (r : ℕ) out′. ReadsImage image low high out r out′)
+unfolding ReadsImage
+export·x87-image-read image low high out = tells
 
-pub export·x87-image-write : (image : List ℕ) (low high : ℕ) → Determined₁ (λ (r : ℕ) image′. Writes image low high r image′)
+pub export·x87-image-write : (image : List ℕ) (low high : ℕ) → Determined₁ (λ (r : ℕ) image′. WritesImage image low high r image′)
 export·x87-image-write image low high = writes
 
-pub export·x87-check : (nodes : List ℕ) (count : ℕ) (out : List ℕ) → Determined₁ (λ (r : ℕ) out′. Checks nodes count out r out′)
-unfolding Checks
-export·x87-check nodes count out = wrote
+pub export·x87-check : (nodes : List ℕ) (count : ℕ) (out : List ℕ) → Determined₁ (λ (r : ℕ) out′. ChecksNodes nodes count out r out′)
+unfolding ChecksNodes
+export·x87-check nodes count out = tells
 
-pub export·x87-evaluate : (nodes : List ℕ) (count : ℕ) (given column out : List ℕ) → Determined₂ (λ (r : ℕ) column′ out′. Evaluates nodes count given column out r column′ out′)
+pub export·x87-evaluate : (nodes : List ℕ) (count : ℕ) (given column out : List ℕ) → Determined₂ (λ (r : ℕ) column′ out′. EvaluatesNodes nodes count given column out r column′ out′)
 export·x87-evaluate nodes count given column out = evaluates
 
 -- listing

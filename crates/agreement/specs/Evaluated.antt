@@ -4,13 +4,12 @@
 use mathlib.Core.Path.{_≡_, ap, subst, _∙_}
 use mathlib.Core.List.{List}
 use Prim.Native.Nat.{ℕ, _/_, _^_, _≤_, _<_}
-use native.Mathlib.Omega.{arith}
-use borrow.Author.Tests.{ne-eqb}
 use lib.ListN.{length, getD}
 use Rattle.forms.specs.declared.Instruction.{Instruction}
 use Rattle.evaluator.specs.Value.{widthOf}
 use Rattle.evaluator.specs.Lists.{vals}
-use Rattle.evaluator.specs.Ready.{GivenFits}
+use Rattle.evaluator.specs.Within.{GivenFits}
+use Rattle.evaluator.specs.Fits.{width-bits}
 use Rattle.evaluator.specs.Laws.{Evaluates, evaluates}
 use Rattle.agreement.specs.Runs.{Held, begun, ran}
 use Rattle.agreement.specs.Demands.{kindAt, namedAt, bitsAt}
@@ -27,13 +26,6 @@ pub record Evaluated (h : Held) (g : List ℕ) (m : ℕ) : Type 0 where
   pub places : (i : ℕ) → i < h .st .depth → valueOf h g (getD (h .st .slots) i 0) < 2 ^ 79
   pub said : (j : ℕ) → j < h .st .statements → (kindAt (h .statements) j ≡ 6 → ⊥)
       → valueOf h g (namedAt (h .statements) j) < 2 ^ bitsAt (h .statements) j
-
-width-bits : (s : ℕ) → s ≤ 80 → widthOf s ≡ s
-width-bits s h =
-    let e₁ : s ≡ 2072 → ⊥ = λ e. omega arith in
-    let e₂ : s ≡ 2869 → ⊥ = λ e. omega arith in
-    let e₃ : s ≡ 3904 → ⊥ = λ e. omega arith in
-    simp (ne-eqb s 2072 e₁, ne-eqb s 2869 e₂, ne-eqb s 3904 e₃)
 
 -- Of any lists that are sound
 pub sound-evaluated : (h : Held) (g : List ℕ) (m : ℕ) → Sound h → h .st .nodes ≤ length g / 2 → h .st .nodes ≤ m / 2 → GivenFits (h .nodes) g (h .st .nodes) → Evaluated h g m

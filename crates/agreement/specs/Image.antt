@@ -28,7 +28,7 @@ use Rattle.sorts.specs.Lists.{sorts}
 use Rattle.sorts.specs.Laws.{Passes, passed-room, agree}
 use Rattle.evaluator.specs.Value.{widthOf}
 use Rattle.evaluator.specs.Lists.{pairAt, vals}
-use Rattle.evaluator.specs.Ready.{GivenFits}
+use Rattle.evaluator.specs.Within.{GivenFits}
 use Rattle.evaluator.specs.Laws.{all-fit}
 use Rattle.agreement.specs.Runs.{Held, begun, stepped, called, ran, ran-on}
 use Rattle.agreement.specs.Fits.{formFits, memoryFits, isMemory, firstOf, no-register}

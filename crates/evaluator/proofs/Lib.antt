@@ -1,3 +1,4 @@
+pub mod Filled
 pub mod Column
 pub mod Node
 pub mod Ends

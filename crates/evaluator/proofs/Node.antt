@@ -12,7 +12,7 @@ use Rattle.sorts.specs.Lists.{field, rowSort, sorts}
 use Rattle.sorts.specs.Laws.{take-sorts, sorts-suc, length-sorts, passed-sorted, passes-less}
 use Rattle.evaluator.specs.Value.{isGiven, computed}
 use Rattle.evaluator.specs.Lists.{operandAt, rowValue, vals, flat}
-use Rattle.evaluator.specs.Ready.{NodeReady, RunReady}
+use Rattle.evaluator.specs.Inside.{NodeReady, RunReady}
 use Rattle.evaluator.specs.Fits.{concat-inside}
 use Rattle.evaluator.specs.Laws.{length-vals, all-fit}
 use Rattle.evaluator.proofs.Column.{operand}

@@ -17,7 +17,8 @@ use Rattle.evaluator.specs.Formats.{nanOf}
 use Rattle.evaluator.specs.Exact.{isNaN, canon, fEq, fLt}
 use Rattle.evaluator.specs.Value.{widthOf, flagOf, held, computed}
 
-width-bits : (s : ℕ) → s ≤ 80 → widthOf s ≡ s
+-- a sort of bits is its width
+pub width-bits : (s : ℕ) → s ≤ 80 → widthOf s ≡ s
 width-bits s h =
     let e₁ : s ≡ 2072 → ⊥ = λ e. omega arith in
     let e₂ : s ≡ 2869 → ⊥ = λ e. omega arith in

@@ -16,7 +16,7 @@ use Rattle.sorts.specs.declared.Verdict.the-variants.{Passed}
 use Rattle.evaluator.specs.Value.{widthOf, isGiven, held, computed}
 use Rattle.evaluator.specs.Lists.{pairAt, rowValue, vals, fitsAt, wideFrom}
 use Rattle.evaluator.specs.Outcome.{outcomeOf, numberOf}
-use Rattle.evaluator.specs.Ready.{AllFit, GivenFits}
+use Rattle.evaluator.specs.Within.{AllFit, GivenFits}
 use Rattle.evaluator.specs.Fits.{held-fits, computed-fits}
 use Rattle.evaluator.specs.declared.Outcome.{Outcome}
 use Rattle.evaluator.specs.declared.Outcome.the-variants.{Done, TooWide}
@@ -142,7 +142,7 @@ fits-done w g n (suc k) i h f = rw (here (isGiven (getD w (4 * i) 0)) refl) (fit
 -- A LIST THAT THE CHECK PASSES EVALUATES TO ITS END, with columns long enough and given values that fit, and each value is below 2 to its width
 pub record Evaluates (w g : List ℕ) (n m : ℕ) : Type 0 where
   pub ends : numberOf (outcomeOf w n g m) ≡ 0
-  pub fits : (i : ℕ) → getD (vals w g n) i 0 < 2 ^ widthOf (getD (sorts w n) i 0)
+  pub fits : AllFit (vals w g n) (sorts w n)
 
 pub evaluates : (w g : List ℕ) (n m : ℕ) → checkOf w n ≡ Passed → n ≤ length g / 2 → n ≤ m / 2 → GivenFits w g n → Evaluates w g n m
 unfolding outcomeOf

@@ -3,7 +3,8 @@ pub mod Exact
 pub mod Value
 pub mod Lists
 pub mod Outcome
-pub mod Ready
+pub mod Within
+pub mod Inside
 pub mod Order
 pub mod Fits
 pub mod Laws

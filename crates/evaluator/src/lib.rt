@@ -1,4 +1,6 @@
-// The values of a list of nodes, into a lent column of two words a node, low first.
+// The check that each node of a list has a sort, and the values of the nodes, into a lent column of two words a node, low first.
+mod table;
+
 ghost use mathlib.Core.Path.{_≡_};
 ghost use mathlib.Core.Bool.{cond};
 ghost use mathlib.Core.List.{_++_};
@@ -6,13 +8,15 @@ ghost use Prim.Native.Nat.{ℕ, _+_, _*_, _≤_, _<_, _^_};
 ghost use lib.Dec.{eqb};
 ghost use lib.ListN.{length, getD, take, drop};
 ghost use Rattle.words.specs.Wide.{val, concatOf};
-ghost use Rattle.sorts.specs.Lists.{sorts, rowSort};
+ghost use Rattle.sorts.specs.Lists.{sorts};
+ghost use Rattle.sorts.specs.Check.{checkOf};
 ghost use Rattle.evaluator.specs.Formats.{byFormat, signPlace, infOf, nanOf};
 ghost use Rattle.evaluator.specs.Exact.{fEq, fLt, isNaN, isNegative, signedBelow, canon};
 ghost use Rattle.evaluator.specs.Value.{widthOf, flagOf, isGiven, held, computed};
 ghost use Rattle.evaluator.specs.Lists.{pairAt, operandAt, rowValue, vals, flat, fitsAt, wideFrom};
 ghost use Rattle.evaluator.specs.Outcome.{outcomeOf, columnAfter};
-ghost use Rattle.evaluator.specs.Ready.{NodeReady, RunReady, ScanReady};
+ghost use Rattle.evaluator.specs.Inside.{NodeReady, RunReady, ScanReady};
+use sorts::Verdict;
 use words::Wide;
 
 // What an evaluation says.
@@ -240,7 +244,7 @@ fn sort_at(t: &[u16], n: usize, a: u64) -> u64
     requires { ⌜ n ≤ length (now t) ⌝ }
     ensures { λ r. ⌜ r ≡ getD (take n (now (t .entry))) a 0 ⌝ }
 {
-    if a < n as u64 { wide(t[a as usize]) } else { 0 }
+    wide(table::at(t, n, a))
 }
 
 // Entry i of a column.
@@ -334,6 +338,14 @@ fn run(nodes: &[u64], count: usize, given: &[u64], t: &[u16], column: &mut [u64]
     }
 }
 
+// Whether each of the first `count` nodes has a sort; else the first that has none.
+pub fn check(nodes: &[u64], count: usize) -> Verdict
+    ensures { λ r. ⌜ r ≡ checkOf (now (nodes .entry)) count ⌝ }
+{
+    let mut t = [0u16; 65536];
+    table::tabulate(nodes, count, &mut t)
+}
+
 // The values of the first `count` nodes into the column, or what stands in the way.
 pub fn evaluate(nodes: &[u64], count: usize, given: &[u64], column: &mut [u64]) -> Outcome
     ensures { λ r. ⌜ (r ≡ outcomeOf (now (nodes .entry)) count (now (given .entry)) (length (now (column .entry)))) × (now (column .exit) ≡ columnAfter r (now (nodes .entry)) count (now (given .entry)) (now (column .entry))) ⌝ }
@@ -345,10 +357,10 @@ pub fn evaluate(nodes: &[u64], count: usize, given: &[u64], column: &mut [u64]) 
         return Outcome::Room;
     }
     let mut t = [0u16; 65536];
-    match sorts::tabulate(nodes, count, &mut t) {
-        sorts::Verdict::Room => Outcome::Room,
-        sorts::Verdict::Fault(i) => Outcome::Fault(i),
-        sorts::Verdict::Passed => match first_wide(nodes, count, given, &t) {
+    match table::tabulate(nodes, count, &mut t) {
+        Verdict::Room => Outcome::Room,
+        Verdict::Fault(i) => Outcome::Fault(i),
+        Verdict::Passed => match first_wide(nodes, count, given, &t) {
             Outcome::Done => {
                 run(nodes, count, given, &t, column);
                 Outcome::Done

@@ -1,7 +1,9 @@
 -- The flat layout of an instruction: 177 bytes, low byte first. Address 0 to 8; mnemonic length at 8, its text 9 to 41; operand count at 41; three operands at 42, 87 and 132.
+use mathlib.Core.Bool.{Bool}
 use mathlib.Core.List.{List, [], _∷_, _++_}
 use Prim.Native.Nat.{ℕ, _+_}
-use lib.ListN.{take, drop, getD}
+use lib.Dec.{leb}
+use lib.ListN.{length, take, drop, getD}
 use lib.Seq.{sets}
 use Rattle.words.specs.Bytes.{numberIn, bytesOf}
 use Rattle.texts.specs.declared.Text.{Text}
@@ -25,7 +27,7 @@ operandIn l p =
       slot = numberIn l (p + 41) 4;
     }
 
--- the instruction that stands in 177 bytes
+-- the instruction that stands in the first 177 bytes
 unfoldable pub insnOf : List ℕ → Instruction
 insnOf l =
     record {
@@ -34,6 +36,10 @@ insnOf l =
       mnemonic = textIn l 8;
       address = numberIn l 0 8;
     }
+
+-- a list has k entries or more
+abbrev pub atLeast : ℕ → List ℕ → Bool
+atLeast k l = leb k (length l)
 
 -- a list with vs stored from place i on
 unfoldable pub laid : List ℕ → ℕ → List ℕ → List ℕ

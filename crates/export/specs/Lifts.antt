@@ -3,15 +3,15 @@ use mathlib.Core.Path.{_≡_}
 use mathlib.Core.Bool.{Bool, cond, _&&_}
 use mathlib.Core.List.{List, [], _∷_}
 use Prim.Native.Nat.{ℕ, _%_}
-use lib.Dec.{leb, ltb, eqb}
-use lib.ListN.{length, take, getD}
+use lib.Dec.{leb, ltb}
+use lib.ListN.{take, getD}
 use Rattle.texts.specs.Bytes.{all}
 use Rattle.lists.specs.Rows.{wrote}
 use Rattle.lists.specs.Steps.{Built}
 use Rattle.lists.specs.declared.State.{State}
 use Rattle.forms.specs.declared.Instruction.{Instruction}
 use Rattle.lifter.specs.Lift.{liftOf}
-use Rattle.export.specs.Flat.{insnOf, laid}
+use Rattle.export.specs.Flat.{insnOf, laid, atLeast}
 
 -- a number of 32 bits
 abbrev pub smallIs : ℕ → Bool
@@ -66,9 +66,9 @@ done b s n t =
 unfoldable pub liftedIn : Instruction → List ℕ → List ℕ → List ℕ → Lifted
 liftedIn i s n t = cond (all smallIs (take 13 s)) (done (liftOf (stateIn s) i n t) s n t) (unchanged 5 s n t)
 
--- .. of the instruction in 177 bytes: 10 where a slice is too short
+-- .. of the instruction in the first 177 bytes: 10 where a slice is too short
 unfoldable pub liftedOf : List ℕ → List ℕ → List ℕ → List ℕ → Lifted
-liftedOf flat s n t = cond (eqb (length flat) 177 && leb 13 (length s)) (liftedIn (insnOf flat) s n t) (unchanged 10 s n t)
+liftedOf flat s n t = cond (atLeast 177 flat && atLeast 13 s) (liftedIn (insnOf flat) s n t) (unchanged 10 s n t)
 
 pub record Lifts (x : Lifted) (r : ℕ) (s n t : List ℕ) : Type 0 where
   pub answer : r ≡ x .answer

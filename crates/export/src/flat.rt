@@ -74,9 +74,9 @@ fn operand(s: &[u8], at: usize) -> Operand
     }
 }
 
-// The instruction that stands in 177 bytes.
+// The instruction that stands in the first 177 bytes.
 pub(crate) fn read(s: &[u8]) -> Instruction
-    requires { ⌜ length (now s) ≡ 177 ⌝ }
+    requires { ⌜ 177 ≤ length (now s) ⌝ }
     ensures { λ r. ⌜ r ≡ insnOf (now (s .entry)) ⌝ }
 {
     let address = eight(s, 0);

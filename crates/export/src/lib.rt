@@ -12,40 +12,46 @@ ghost use lib.Dec.{leb};
 ghost use Rattle.export.specs.Flat.{laid};
 ghost use Rattle.export.specs.Lifts.{Lifts, liftedIn, liftedOf, keptIf};
 ghost use Rattle.export.specs.Steps.{Steps, steppedOf, toldOf};
-ghost use Rattle.export.specs.Answers.{Classifies, Affects, Reads, wroteIf};
+ghost use Rattle.export.specs.Answers.{Classifies, Affects, ReadsRecord, wroteIf};
 use forms::Instruction;
 use lists::State;
 
-// Classifies the instruction that stands in 177 bytes, and writes its form's eight words.
+// Classifies the instruction that stands in the first 177 bytes, and tells its form's eight words.
 #[no_mangle]
 pub extern "C" fn x87_classify(flat: &[u8], out: &mut [u64]) -> u32
     ensures { λ r. ⌜ Classifies (now (flat .entry)) (now (out .entry)) r (now (out .exit)) ⌝ }
 {
-    if flat.len() == 177 {
-        if 8 <= out.len() {
+    if 8 <= out.len() {
+        if 177 <= flat.len() {
             let insn = flat::read(flat);
             let answer = forms::classify(insn);
             let w = answers::fields(answer);
             answers::lay(out, &w);
             return answers::number(answer);
         }
+        let none = [0u64; 8];
+        answers::lay(out, &none);
+        return 10;
     }
     10
 }
 
-// Writes the seven flags of what the instruction touches.
+// Tells the seven flags of what the instruction touches.
 #[no_mangle]
 pub extern "C" fn x87_effect(flat: &[u8], out: &mut [u64]) -> u32
     ensures { λ r. ⌜ Affects (now (flat .entry)) (now (out .entry)) r (now (out .exit)) ⌝ }
 {
-    if flat.len() == 177 {
-        if 7 <= out.len() {
+    if 7 <= out.len() {
+        if 177 <= flat.len() {
             let insn = flat::read(flat);
             let answer = forms::x87_effect(insn);
             let w = answers::effect_fields(answer);
             answers::lay(out, &w);
             return answers::effect_number(answer);
         }
+        let none = [0u64; 7];
+        answers::lay(out, &none);
+        return 10;
     }
     10
 }
@@ -60,13 +66,13 @@ fn write_if(flat: &mut [u8], insn: Instruction, there: bool)
     }
 }
 
-// Reads the record at a place: writes the next place or the offending one, whether a record was read, and its instruction.
+// Reads the record at a place: tells the next place or the offending one and whether a record was read, and writes its instruction.
 #[no_mangle]
 pub extern "C" fn x87_read_record(input: &[u8], at: usize, flat: &mut [u8], out: &mut [u64]) -> u32
-    ensures { λ r. ⌜ Reads (takenAt (now (input .entry)) at) (now (flat .entry)) (now (out .entry)) r (now (flat .exit)) (now (out .exit)) ⌝ }
+    ensures { λ r. ⌜ ReadsRecord (takenAt (now (input .entry)) at) (now (flat .entry)) (now (out .entry)) r (now (flat .exit)) (now (out .exit)) ⌝ }
 {
-    if 177 <= flat.len() {
-        if 2 <= out.len() {
+    if 2 <= out.len() {
+        if 177 <= flat.len() {
             let t = reader::record_at(input, at);
             let o = t.outcome;
             let insn = t.insn;
@@ -76,6 +82,9 @@ pub extern "C" fn x87_read_record(input: &[u8], at: usize, flat: &mut [u8], out:
             write_if(flat, insn, there);
             return answers::outcome_number(o);
         }
+        let none = [0u64; 2];
+        answers::lay(out, &none);
+        return 10;
     }
     10
 }
@@ -107,7 +116,7 @@ fn lift_in(insn: Instruction, state: &mut [u64], nodes: &mut [u64], statements: 
     5
 }
 
-// Lifts the instruction that stands in 177 bytes.
+// Lifts the instruction that stands in the first 177 bytes.
 #[no_mangle]
 pub extern "C" fn x87_lift(
     flat: &[u8],
@@ -117,7 +126,7 @@ pub extern "C" fn x87_lift(
 ) -> u32
     ensures { λ r. ⌜ Lifts (liftedOf (now (flat .entry)) (now (state .entry)) (now (nodes .entry)) (now (statements .entry))) r (now (state .exit)) (now (nodes .exit)) (now (statements .exit)) ⌝ }
 {
-    if flat.len() == 177 {
+    if 177 <= flat.len() {
         if 13 <= state.len() {
             let insn = flat::read(flat);
             return lift_in(insn, state, nodes, statements);
@@ -126,7 +135,7 @@ pub extern "C" fn x87_lift(
     10
 }
 
-// Writes the two words beside a record's answer.
+// Tells the two words beside a record's answer.
 fn tell(out: &mut [u64], answer: u32, next: usize, at: usize)
     requires { ⌜ 2 ≤ length (now out) ⌝ }
     ensures { λ _. ⌜ now (out .exit) ≡ laid (now (out .entry)) 0 (toldOf answer next at) ⌝ }
@@ -150,10 +159,10 @@ pub extern "C" fn x87_lift_record(
     statements: &mut [u64],
     out: &mut [u64],
 ) -> u32
-    ensures { λ r. ⌜ Steps (steppedOf (takenAt (now (input .entry)) at) at (now (state .entry)) (now (nodes .entry)) (now (statements .entry)) (now (out .entry))) (now (out .entry)) r (now (state .exit)) (now (nodes .exit)) (now (statements .exit)) (now (out .exit)) ⌝ }
+    ensures { λ r. ⌜ Steps (steppedOf (takenAt (now (input .entry)) at) at (now (state .entry)) (now (nodes .entry)) (now (statements .entry))) (now (state .entry)) (now (nodes .entry)) (now (statements .entry)) (now (out .entry)) r (now (state .exit)) (now (nodes .exit)) (now (statements .exit)) (now (out .exit)) ⌝ }
 {
-    if 13 <= state.len() {
-        if 2 <= out.len() {
+    if 2 <= out.len() {
+        if 13 <= state.len() {
             let t = reader::record_at(input, at);
             let o = t.outcome;
             let insn = t.insn;
@@ -167,6 +176,9 @@ pub extern "C" fn x87_lift_record(
             answers::lay(out, &w);
             return answers::outcome_number(o);
         }
+        let none = [0u64; 2];
+        answers::lay(out, &none);
+        return 10;
     }
     10
 }

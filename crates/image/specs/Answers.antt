@@ -1,4 +1,4 @@
--- What the two calls answer, and document 01's number for each answer.
+-- What the two calls answer, and document 01's number and node for each answer.
 use mathlib.Core.Bool.{cond}
 use mathlib.Core.List.{List, _++_}
 use Prim.Native.Nat.{ℕ, _^_}
@@ -31,12 +31,23 @@ imageAfter b p =
     (cond (ltb (val p) (2 ^ 79)) (bytesOf 10 (imageOf (val p)) ++ drop 10 b)
     b)
 
+-- document 01's number, and the node beside it: an image call names node 0
 abbrev pub readNumber : Found → ℕ
 readNumber (found.Pattern p) = 0
 readNumber found.TooWide = 9
 readNumber found.Short = 10
 
+abbrev pub readNode : Found → ℕ
+readNode (found.Pattern p) = 0
+readNode found.TooWide = 0
+readNode found.Short = 0
+
 abbrev pub writtenNumber : Written → ℕ
 writtenNumber written.Done = 0
 writtenNumber written.TooWide = 9
 writtenNumber written.Short = 10
+
+abbrev pub writtenNode : Written → ℕ
+writtenNode written.Done = 0
+writtenNode written.TooWide = 0
+writtenNode written.Short = 0

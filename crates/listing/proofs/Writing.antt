@@ -1,12 +1,12 @@
--- Text that is written one part after the other, and how long it can be.
+-- Text that is written one part after the other.
 use mathlib.Core.Path.{_≡_, refl, sym, ap, _∙_}
-use mathlib.Core.Bool.{Bool, true, false, cond}
+use mathlib.Core.Bool.{true, false}
 use mathlib.Core.List.{List, [], _∷_, _++_, append-assoc}
 use Prim.Native.Nat.{ℕ, zero, suc, _+_, _-_, _*_, _/_, _%_, _≤_, _<_}
 use native.Mathlib.Numerals.{add-one}
 use native.Mathlib.Omega.{arith}
 use borrow.Author.Tests.{lt-ltb, le-ltb, le-leb, lt-leb}
-use lib.Dec.{ltb, leb}
+use lib.Dec.{leb}
 use lib.ListN.{length, getD, take, set, length-append}
 use lib.Seq.{length-sets, set-out, take-suc, take-all}
 use Rattle.lists.proofs.Runs.{sets-append}
@@ -14,6 +14,7 @@ use Rattle.lists.specs.declared.State.{State}
 use Rattle.listing.specs.Listing.{Lists, places, stateLine}
 use Rattle.listing.specs.declared.Listed.the-variants.{Bytes, Short}
 use Rattle.listing.specs.Text.{Put, digits, numbers, line, rows}
+use Rattle.listing.specs.Longest.{numbers-most, rows-most}
 
 -- one part, and then another
 module _ {a b : List ℕ} {at p r : ℕ} {l l′ l″ : List ℕ} where
@@ -46,16 +47,6 @@ module _ (at : ℕ) (l : List ℕ) where
   pub beyond : (b : ℕ) → length l ≤ at → Put (b ∷ []) at (at + 1) l l
   beyond b h = record { place = refl; bytes = sym (set-out l at b h) }
 
--- no more than k digits, 21 bytes a number, and two beside a line's numbers
-pub digits-most : (k v : ℕ) → length (digits k v) ≤ k
-unfolding digits
-digits-most zero v = omega arith
-digits-most (suc k) v = by (ltb v 10) (digits-most k (v / 10))
-  where
-    by : (t : Bool) → length (digits k (v / 10)) ≤ k → length (cond t ((48 + v) ∷ []) (digits k (v / 10) ++ ((48 + v % 10) ∷ []))) ≤ suc k
-    by true h = omega arith
-    by false h = simp length-append (omega arith)
-
 -- a number of one digit, and of more
 pub few : (k v : ℕ) → (k ≡ 0 → ⊥) → v < 10 → (48 + v) ∷ [] ≡ digits k v
 unfolding digits
@@ -66,20 +57,6 @@ pub many : (k v : ℕ) → (k ≡ 0 → ⊥) → 10 ≤ v → digits (k - 1) (v 
 unfolding digits
 many zero v h l = absurd (h refl)
 many (suc k) v h l = let q : suc k - 1 ≡ k = omega arith in rw (le-ltb v 10 l, q)
-
-pub numbers-most : (l : List ℕ) → length (numbers l) ≤ 21 * length l
-unfolding numbers
-numbers-most [] = omega arith
-numbers-most (v ∷ l) = simp length-append (omega (arith, digits-most 20 v, numbers-most l))
-
-pub line-most : (c : ℕ) (l : List ℕ) → length (line c l) ≤ 21 * length l + 2
-unfolding line
-line-most c l = simp length-append (omega (arith, numbers-most l))
-
-rows-most : (c : ℕ) (w : List ℕ) (n : ℕ) → length (rows c w n) ≤ 107 * n
-unfolding rows
-rows-most c w zero = omega arith
-rows-most c w (suc n) = simp length-append (omega (arith, rows-most c w n, line-most c (n ∷ getD w (4 * n) 0 ∷ getD w (4 * n + 1) 0 ∷ getD w (4 * n + 2) 0 ∷ getD w (4 * n + 3) 0 ∷ [])))
 
 -- one number more
 numbers-append : (l m : List ℕ) → numbers (l ++ m) ≡ numbers l ++ numbers m
@@ -109,11 +86,6 @@ module _ {at r : ℕ} {o o′ : List ℕ} where
   unfolding rows
   row-on c w i x y z u p m ex ey ez eu a b = rw (add-one i, ← ex, ← ey, ← ez, ← eu) (then a b)
 
-length-take-most : (n : ℕ) (l : List ℕ) → length (take n l) ≤ length l
-length-take-most zero l = omega arith
-length-take-most (suc n) [] = omega arith
-length-take-most (suc n) (x ∷ l) = omega (arith, length-take-most n l)
-
 -- the line of a state whose depth is below eight, and of any other
 module _ (s : State) (p : List ℕ) (e : p ≡ places s) where
   abbrev eight : List ℕ
@@ -127,19 +99,15 @@ module _ (s : State) (p : List ℕ) (e : p ≡ places s) where
   unfolding stateLine
   all-places h = rw (e, take-all (s .depth) (places s) h)
 
-pub state-most : (s : State) → length (stateLine s) ≤ 233
-unfolding stateLine
-state-most s = omega (arith, line-most 100 (s .depth ∷ s .inputs ∷ s .temporaries ∷ take (s .depth) (places s)), length-take-most (s .depth) (places s))
-
 -- the whole text, or none of it
 module _ {text old new : List ℕ} {r : ℕ} where
   pub fits : {n : ℕ} {l m : List ℕ} → Put text 0 n l m → n ≤ length old → Put text 0 r old new → Lists text (Bytes n) old new
   fits {n = n} x h y =
       let q : n ≡ length text = x .place ∙ omega arith in
       let k : leb (length text) (length old) ≡ true = le-leb (length text) (length old) (omega arith) in
-      record { answer = rw (k, q); bytes = rw k (y .bytes) }
+      record { answer = rw (k, q); bytes = y .bytes }
 
 pub does-not : {text old : List ℕ} {n : ℕ} {l m : List ℕ} → Put text 0 n l m → length old < n → Lists text Short old old
 does-not {text} {old} {n} x h =
     let k : leb (length text) (length old) ≡ false = lt-leb (length text) (length old) (omega (arith, x .place)) in
-    record { answer = rw k; bytes = rw k }
+    record { answer = rw k; bytes = refl }

@@ -31,12 +31,12 @@ unfoldable pub textOf : List ℕ → List ℕ → Stop → List ℕ
 textOf nodes statements r =
     rows 110 nodes (r .state .nodes) ++ (rows 115 statements (r .state .statements) ++ (stateLine (r .state) ++ refusalLine (r .number) (r .place)))
 
--- the text in front, where it fits, and else nothing
-pub record Lists (text : List ℕ) (r : Listed) (old new : List ℕ) : Type 0 where
-  pub answer : r ≡ cond (leb (length text) (length old)) (Bytes (length text)) Short
-  pub bytes : new ≡ cond (leb (length text) (length old)) (sets old 0 text) old
-
 -- document 01's number
 abbrev pub numberOf : Listed → ℕ
 numberOf (Bytes n) = 0
 numberOf Short = 10
+
+-- how many bytes the text has, where they fit; beside 0 it stands in front, and beside 10 nothing is written
+pub record Lists (text : List ℕ) (r : Listed) (old new : List ℕ) : Type 0 where
+  pub answer : r ≡ cond (leb (length text) (length old)) (Bytes (length text)) Short
+  pub bytes : new ≡ cond (eqb (numberOf r) 0) (sets old 0 text) old

@@ -14,30 +14,31 @@ either : (t : Bool) (a b : List ℕ) (n : ℕ) → length a ≤ n → length b �
 either true a b n h k = h
 either false a b n h k = k
 
-digits-most : (k v : ℕ) → length (digits k v) ≤ k
+-- no more than k digits, 21 bytes a number, two beside a line's numbers, and five numbers a row
+pub digits-most : (k v : ℕ) → length (digits k v) ≤ k
 unfolding digits
 digits-most zero v = omega arith
 digits-most (suc k) v =
     either (ltb v 10) ((48 + v) ∷ []) (digits k (v / 10) ++ ((48 + v % 10) ∷ [])) (suc k) (omega arith)
     (omega (arith, length-append (digits k (v / 10)) ((48 + v % 10) ∷ []), digits-most k (v / 10)))
 
-numbers-most : (l : List ℕ) → length (numbers l) ≤ 21 * length l
+pub numbers-most : (l : List ℕ) → length (numbers l) ≤ 21 * length l
 unfolding numbers
 numbers-most [] = omega arith
 numbers-most (v ∷ l) = omega (arith, length-append (digits 20 v) (numbers l), digits-most 20 v, numbers-most l)
 
-line-most : (letter : ℕ) (l : List ℕ) → length (line letter l) ≤ 21 * length l + 2
+pub line-most : (letter : ℕ) (l : List ℕ) → length (line letter l) ≤ 21 * length l + 2
 unfolding line
 line-most letter l = omega (arith, length-append (numbers l) (10 ∷ []), numbers-most l)
 
-rows-most : (letter : ℕ) (w : List ℕ) (n : ℕ) → length (rows letter w n) ≤ 107 * n
+pub rows-most : (letter : ℕ) (w : List ℕ) (n : ℕ) → length (rows letter w n) ≤ 107 * n
 unfolding rows
 rows-most letter w zero = omega arith
 rows-most letter w (suc n) =
     let r = n ∷ getD w (4 * n) 0 ∷ getD w (4 * n + 1) 0 ∷ getD w (4 * n + 2) 0 ∷ getD w (4 * n + 3) 0 ∷ [] in
     omega (arith, length-append (rows letter w n) (line letter r), rows-most letter w n, line-most letter r)
 
-state-most : (s : State) → length (stateLine s) ≤ 233
+pub state-most : (s : State) → length (stateLine s) ≤ 233
 unfolding stateLine
 state-most s =
     let l = take (s .depth) (places s) in

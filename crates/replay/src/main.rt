@@ -119,8 +119,8 @@ fn list_equal(list: &[u64], from: usize, rows: &[u8]) -> bool {
 fn instruction_equal(head: &[u8]) -> bool
     requires { ⌜ length (now head) ≡ 288 ⌝ }
 {
-    let mut words = [0u64; 8];
-    let mut flags = [0u64; 7];
+    let mut words = [1u64; 8];
+    let mut flags = [2u64; 7];
     let a = export::x87_classify(&head[0..177], &mut words);
     let b = export::x87_effect(&head[0..177], &mut flags);
     if a as u64 == wide(head[177]) {
@@ -138,7 +138,7 @@ fn record_equal(head: &[u8], input: &[u8]) -> bool
     requires { ⌜ length (now head) ≡ 288 ⌝ }
 {
     let mut flat = [0u8; 177];
-    let mut out = [0u64; 2];
+    let mut out = [2u64; 2];
     let at = two(head, 2);
     let place = two(head, 5);
     let answer = export::x87_read_record(input, at, &mut flat, &mut out);
@@ -282,7 +282,7 @@ fn value_equal(head: &[u8], tail: &[u8]) -> bool
 fn image_equal(head: &[u8]) -> bool
     requires { ⌜ length (now head) ≡ 288 ⌝ }
 {
-    let mut out = [0u64; 2];
+    let mut out = [1u64; 2];
     let mut image = [0u8; 10];
     let answer = export::values::x87_image_read(
         &head[0..10],

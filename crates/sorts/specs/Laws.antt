@@ -1,8 +1,8 @@
 -- What holds of the sorts of a list: fewer rows have a prefix of them, and rows that are added leave them as they were.
-use mathlib.Core.Bool.{Bool, true, false, cond, _&&_}
+use mathlib.Core.Bool.{Bool, true, false, cond}
 use mathlib.Core.Path.{_≡_, refl, sym, subst, _∙_, ap}
 use mathlib.Core.List.{List, [], _∷_, _++_, append-assoc}
-use Prim.Native.Nat.{ℕ, zero, suc, _+_, _*_, _/_, _≤_, _<_}
+use Prim.Native.Nat.{ℕ, zero, suc, _+_, _*_, _≤_, _<_}
 use native.Mathlib.Nat.{add-zero}
 use native.Mathlib.Numerals.{add-one}
 use native.Mathlib.Omega.{arith}
@@ -10,11 +10,11 @@ use native.Mathlib.Decide.{le-ind, decLt}
 use lib.Dec.{leb, eqb·suc-zero}
 use lib.ListN.{length, getD, take, drop, length-append, take-append-drop}
 use lib.Seq.{take-append-le, take-all}
-use borrow.Author.Tests.{ne-eqb, le-leb, lt-leb, leb-true}
-use Rattle.sorts.specs.Sorts.{sortRow}
+use borrow.Author.Tests.{ne-eqb, leb-true}
+use Rattle.lists.specs.Rows.{roomOf}
 use Rattle.sorts.specs.Lists.{rowSort, sorts}
 use Rattle.sorts.specs.Good.{row-good, good-small}
-use Rattle.sorts.specs.Check.{firstFault, inRoom, checkOf, tabulateOf}
+use Rattle.sorts.specs.Check.{firstFault, checkOf}
 use Rattle.sorts.specs.declared.Verdict.the-variants.{Passed, Fault, Room}
 
 pub sorts-suc : (w : List ℕ) (n : ℕ) → sorts w (n + 1) ≡ sorts w n ++ (rowSort w n (sorts w n) ∷ [])
@@ -64,14 +64,6 @@ fault-at w n i h e z =
     ∙ append-assoc (sorts w i) (rowSort w i (sorts w i) ∷ []) rest in
     rw (s, fault-append (sorts w i) (rowSort w i (sorts w i) ∷ rest) 0 e, z)
     (ap Fault (omega (arith, length-sorts w i)))
-
--- the sort of a node from the sorts looked up in a table whose first i entries are those of the earlier nodes
-pub row-from : (w t : List ℕ) (i r ra rb rc : ℕ) → take i t ≡ sorts w i
-    → ra ≡ getD (take i t) (getD w (4 * i + 1) 0) 0 → rb ≡ getD (take i t) (getD w (4 * i + 2) 0) 0 → rc ≡ getD (take i t) (getD w (4 * i + 3) 0) 0
-    → r ≡ sortRow (getD w (4 * i) 0) (getD w (4 * i + 1) 0) (getD w (4 * i + 2) 0) (getD w (4 * i + 3) 0) ra rb rc
-    → r ≡ rowSort w i (sorts w i)
-unfolding rowSort
-row-from w t i r ra rb rc e ea eb ec er = cc
 
 pub row-small : (w l : List ℕ) (n : ℕ) → rowSort w n l ≤ 3904
 unfolding rowSort
@@ -125,33 +117,18 @@ extend w w' n m e f g =
     by i h p (yes d) = passed-sorted w' n i d p
     by i h p (no d) = g i (omega arith) h
 
--- a table of 65,536 entries is never too short
-pub tabulate-all : (w : List ℕ) (n : ℕ) → tabulateOf w n 65536 ≡ checkOf w n
-unfolding tabulateOf checkOf
-tabulate-all w n = by (decLt 65535 n)
-  where
-    both : (t : Bool) → cond t Room Room ≡ Room
-    both true = refl
-    both false = refl
-
-    by : Dec (65535 < n) → cond (leb n 65536) (cond (inRoom w n) (firstFault 0 (sorts w n)) Room) Room ≡ cond (inRoom w n) (firstFault 0 (sorts w n)) Room
-    by (yes h) = rw (lt-leb n 65535 h) (both (leb n 65536))
-    by (no h) = let k : n ≤ 65536 = omega arith in rw (le-leb n 65536 k)
-
 never : _≡_ {A = ℕ} 0 1 → ⊥
 never t = omega arith
 
 -- what the check of a list that passes says
 pub record Checked (w : List ℕ) (n : ℕ) : Type 0 where
-  pub few : n ≤ 65535
-  pub held : n ≤ length w / 4
+  pub room : n ≤ roomOf (length w)
   pub passes : Passes w n
 
 pub passed-room : (w : List ℕ) (n : ℕ) → checkOf w n ≡ Passed → Checked w n
 unfolding checkOf
-passed-room w n e = by (leb n 65535) (leb n (length w / 4)) refl refl e
+passed-room w n e = by (leb n (roomOf (length w))) refl e
   where
-    by : (x y : Bool) → leb n 65535 ≡ x → leb n (length w / 4) ≡ y → cond (x && y) (firstFault 0 (sorts w n)) Room ≡ Passed → Checked w n
-    by true true p q r = record { few = leb-true n 65535 p; held = leb-true n (length w / 4) q; passes = r }
-    by true false p q r = let z : Room ≡ Passed = r in let t : _≡_ {A = ℕ} 0 1 = cc in absurd (never t)
-    by false y p q r = let z : Room ≡ Passed = r in let t : _≡_ {A = ℕ} 0 1 = cc in absurd (never t)
+    by : (x : Bool) → leb n (roomOf (length w)) ≡ x → cond x (firstFault 0 (sorts w n)) Room ≡ Passed → Checked w n
+    by true p q = record { room = leb-true n (roomOf (length w)) p; passes = q }
+    by false p q = let z : Room ≡ Passed = q in let t : _≡_ {A = ℕ} 0 1 = cc in absurd (never t)

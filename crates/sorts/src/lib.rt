@@ -1,12 +1,9 @@
-// The sorts of a list of nodes, and the check that each node has one. A node is a row of four words: kind, a, b, c.
+// The table of sorts: the sort of a node from its row of four words (kind, a, b, c) and the sorts of its operands.
 ghost use mathlib.Core.Path.{_≡_};
 ghost use mathlib.Core.Bool.{_&&_};
-ghost use Prim.Native.Nat.{ℕ, _+_, _-_, _*_, _≤_};
+ghost use Prim.Native.Nat.{_+_, _-_};
 ghost use lib.Dec.{leb, ltb, eqb};
-ghost use lib.ListN.{length, getD, take};
 ghost use Rattle.sorts.specs.Sorts.{when, isBits, isFloat, isStored, isWord, patternWidth, sortRow};
-ghost use Rattle.sorts.specs.Lists.{sorts, rowSort};
-ghost use Rattle.sorts.specs.Check.{checkOf, tabulateOf, tableAfter};
 use words::Wide;
 
 // What the check of a list says.
@@ -120,58 +117,4 @@ pub fn sort_of(k: u64, a: u64, b: u64, c: u64, xa: u16, xb: u16, xc: u16) -> u64
         29 => only(is_float(sa) & (b <= 1) & is_float(c), c),
         _ => 0,
     }
-}
-
-// The sort of an operand of node n: 0 where it is not earlier.
-fn at(t: &[u16], n: usize, a: u64) -> u16
-    requires { ⌜ n ≤ length (now t) ⌝ }
-    ensures { λ r. ⌜ r ≡ getD (take n (now (t .entry))) a 0 ⌝ }
-{
-    if a < n as u64 { t[a as usize] } else { 0 }
-}
-
-// The sort of node i, from the sorts of the earlier nodes.
-fn node_sort(nodes: &[u64], t: &[u16], i: usize) -> u64
-    requires { ⌜ (4 * i + 4 ≤ length (now nodes)) × (i ≤ length (now t)) × (take i (now t) ≡ sorts (now nodes) i) ⌝ }
-    ensures { λ r. ⌜ r ≡ rowSort (now (nodes .entry)) i (sorts (now (nodes .entry)) i) ⌝ }
-{
-    let j = 4 * i;
-    let k = nodes[j];
-    let a = nodes[j + 1];
-    let b = nodes[j + 2];
-    let c = nodes[j + 3];
-    sort_of(k, a, b, c, at(t, i, a), at(t, i, b), at(t, i, c))
-}
-
-// The sorts of the first `count` nodes into the lent table, up to the first node without one. A table that is too short is refused as a room is.
-pub fn tabulate(nodes: &[u64], count: usize, t: &mut [u16]) -> Verdict
-    ensures { λ r. ⌜ (r ≡ tabulateOf (now (nodes .entry)) count (length (now (t .entry)))) × (now (t .exit) ≡ tableAfter r (now (nodes .entry)) count (now (t .entry))) ⌝ }
-{
-    if t.len() < count {
-        return Verdict::Room;
-    }
-    if 65535 < count {
-        return Verdict::Room;
-    }
-    if nodes.len() / 4 < count {
-        return Verdict::Room;
-    }
-    let mut i = 0;
-    while i < count {
-        let s = node_sort(nodes, &*t, i);
-        if s == 0 {
-            return Verdict::Fault(i);
-        }
-        t[i] = s as u16;
-        i += 1;
-    }
-    Verdict::Passed
-}
-
-// Whether each of the first `count` nodes has a sort; else the first that has none.
-pub fn check(nodes: &[u64], count: usize) -> Verdict
-    ensures { λ r. ⌜ r ≡ checkOf (now (nodes .entry)) count ⌝ }
-{
-    let mut t = [0u16; 65536];
-    tabulate(nodes, count, &mut t)
 }

@@ -8,6 +8,9 @@ use crate::report::{Report, hex};
 use crate::rng::Rng;
 use crate::subject::Subject;
 
+/// What stands beyond the bytes of an instruction.
+const BEYOND: u8 = 0xa5;
+
 /// One case: any bytes, and how many words are lent.
 struct Case {
     flat: Vec<u8>,
@@ -54,7 +57,7 @@ fn grid_case(grid: &Grid, at: usize, rng: &mut Rng) -> Case {
 }
 
 /// A random instruction, in the domain or out of it; now and then with
-/// too few bytes or words.
+/// too few bytes or words, or with bytes beyond.
 fn random_case(grid: &Grid, rng: &mut Rng) -> Case {
     let mut insn = grid.random(rng);
     if rng.one_in(2) {
@@ -67,7 +70,7 @@ fn random_case(grid: &Grid, rng: &mut Rng) -> Case {
     }
     let mut flat = insn.to_flat().to_vec();
     if rng.one_in(32) {
-        flat.resize(rng.below(2 * FLAT + 1), 0);
+        flat.resize(rng.below(2 * FLAT + 1), BEYOND);
     }
     let room = if rng.one_in(8) {
         rng.below(LENT + 1)
@@ -103,7 +106,9 @@ fn asked(case: &Case, call: impl Fn(&[u8], &mut [u64]) -> u32) -> Answer {
 }
 
 fn say(call: &str, case: &Case, expected: &Answer, got: &Answer) -> String {
-    let insn = <&[u8; FLAT]>::try_from(case.flat.as_slice())
+    let insn = case
+        .flat
+        .first_chunk()
         .map_or("no instruction".to_string(), |flat| {
             format!("{:#?}", Instruction::from_flat(flat))
         });

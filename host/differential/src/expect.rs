@@ -1,7 +1,7 @@
 //! What classify and effect are expected to answer: the refusals as
 //! document 01 says them, all else as the Rust says it.
 
-use plain::{DECLINED, FLAT, Instruction, MODELLED, REGISTER, TOO_SHORT, refusal};
+use plain::{DECLINED, Instruction, MODELLED, REGISTER, TOO_SHORT, refusal};
 
 use crate::oracle;
 
@@ -49,18 +49,19 @@ pub fn effect(flat: &[u8], room: usize) -> Answer {
     })
 }
 
-/// Too short, then refused, then what the oracle says in `N` words.
+/// Too short, then refused, then what the oracle says in `N` words, which
+/// are 0 beside all else that can be told.
 fn answer<const N: usize>(
     flat: &[u8],
     room: usize,
     oracle: impl Fn(&Instruction) -> Option<[u64; N]>,
 ) -> Answer {
-    let Ok(flat) = <&[u8; FLAT]>::try_from(flat) else {
-        return Answer::new(TOO_SHORT, &[]);
-    };
     if room < N {
         return Answer::new(TOO_SHORT, &[]);
     }
+    let Some(flat) = flat.first_chunk() else {
+        return Answer::new(TOO_SHORT, &[0; N]);
+    };
     let insn = Instruction::from_flat(flat);
     if let Some(number) = refusal(&insn) {
         return Answer::new(number, &[0; N]);
@@ -75,7 +76,7 @@ fn answer<const N: usize>(
 /// equality: a status store whose `ax` has blanks around it.
 #[must_use]
 pub fn blanks_around_ax(flat: &[u8]) -> bool {
-    let Ok(flat) = <&[u8; FLAT]>::try_from(flat) else {
+    let Some(flat) = flat.first_chunk() else {
         return false;
     };
     let insn = Instruction::from_flat(flat);

@@ -147,7 +147,10 @@ impl<S: Formulas> Run<'_, S> {
                     expected.0 = MODELLED;
                     expected.1[..2].copy_from_slice(&words(pattern));
                 }
-                Err(number) => expected.0 = number,
+                Err(number) => {
+                    expected.0 = number;
+                    expected.1[..2].fill(0);
+                }
             }
         }
         self.report.count(expected.0);

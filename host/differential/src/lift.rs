@@ -52,6 +52,9 @@ fn index(number: u64) -> usize {
     usize::try_from(number).expect("in memory")
 }
 
+/// What stands beyond the bytes of an instruction.
+const BEYOND: u8 = 0xa5;
+
 /// What one call is lent.
 struct Call {
     flat: Vec<u8>,
@@ -85,7 +88,7 @@ impl Expected {
 /// 7, then what the Rust says. The lists are lent with so many words.
 #[must_use]
 pub fn expect(flat: &[u8], state: &[u64], nodes: usize, statements: usize) -> Expected {
-    let (Ok(flat), Some(state)) = (<&[u8; FLAT]>::try_from(flat), state.first_chunk::<STATE>())
+    let (Some(flat), Some(state)) = (flat.first_chunk::<FLAT>(), state.first_chunk::<STATE>())
     else {
         return Expected::refused(TOO_SHORT);
     };
@@ -247,7 +250,7 @@ impl<S: Subject> Sequence<'_, S> {
         if rng.one_in(3) {
             damage_state(&mut call.state, rng);
         }
-        if rng.one_in(4) && call.flat.len() == FLAT {
+        if rng.one_in(4) && call.flat.len() >= FLAT {
             let mut insn = *insn;
             put_out_of_range(&mut insn, rng);
             call.flat = insn.to_flat().to_vec();
@@ -259,12 +262,15 @@ impl<S: Subject> Sequence<'_, S> {
         }
     }
 
-    /// The call with all of the lists, and a few words beyond the state.
+    /// The call with all of the lists, and a few bytes and words beyond
+    /// the instruction and the state.
     fn call(&self, insn: &Instruction, rng: &mut Rng) -> Call {
         let mut state = self.state.to_vec();
         state.resize(STATE + rng.below(3), UNWRITTEN);
+        let mut flat = insn.to_flat().to_vec();
+        flat.resize(FLAT + rng.below(3), BEYOND);
         Call {
-            flat: insn.to_flat().to_vec(),
+            flat,
             state,
             nodes: self.got.nodes.len(),
             statements: self.got.statements.len(),

@@ -17,6 +17,9 @@ const UNWRITTEN: u64 = 0xa5a5_0000_5a5a_0000;
 /// Words beside the answer.
 const TOLD: usize = 2;
 
+/// What stands beyond the bytes of an instruction.
+const BEYOND: u8 = 0xa5;
+
 /// The end mark.
 const END: [u8; 2] = [0x87, 0x45];
 
@@ -153,10 +156,14 @@ fn compare(subject: &impl RecordLifter, input: &Input, before: Lent, report: &mu
 
 /// Read, then lift: places as the one call tells them.
 fn two_calls(subject: &impl Subject, input: &Input, lent: &mut Lent) -> u32 {
-    if lent.state.len() < STATE || lent.told.len() < TOLD {
+    if lent.told.len() < TOLD {
         return TOO_SHORT;
     }
-    let (mut flat, mut read) = ([0; FLAT], [0; TOLD]);
+    if lent.state.len() < STATE {
+        lent.told[..TOLD].fill(0);
+        return TOO_SHORT;
+    }
+    let (mut flat, mut read) = ([BEYOND; FLAT + 7], [0; TOLD]);
     let number = subject.read_record(&input.bytes, input.at, &mut flat, &mut read);
     if read[1] == 0 {
         lent.told[..TOLD].copy_from_slice(&read);

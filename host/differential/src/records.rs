@@ -76,7 +76,11 @@ fn expect(input: &Input, rooms: Rooms) -> (Answer, &'static str) {
         words: WORDS_BEFORE,
         bytes: BYTES_BEFORE,
     };
-    if rooms.bytes < FLAT || rooms.words < 2 {
+    if rooms.words < 2 {
+        return (answer, "slices too short");
+    }
+    if rooms.bytes < FLAT {
+        answer.words[..2].fill(0);
         return (answer, "slices too short");
     }
     let (number, place, flat) = told(&read(&input.bytes, input.at));

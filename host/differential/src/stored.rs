@@ -28,13 +28,16 @@ pub fn file(name: &str) -> Option<Vec<u8>> {
     fs::read(path(name)).ok()
 }
 
+/// What the words to be told hold before a call.
+const UNWRITTEN: u64 = u64::MAX;
+
 /// Compare classify and effect with the rows of `instructions.bin`.
 pub fn instructions(subject: &impl Subject, stored: &[u8]) -> Report {
     let mut report = Report::default();
     assert_eq!(stored.len() % ROW, 0, "whole rows");
     for row in stored.chunks(ROW) {
         let mut got = row[..FLAT].to_vec();
-        let (mut form, mut effect) = ([0; 8], [0; 7]);
+        let (mut form, mut effect) = ([UNWRITTEN; 8], [UNWRITTEN; 7]);
         let number = subject.classify(&row[..FLAT], &mut form);
         let same = subject.effect(&row[..FLAT], &mut effect) == number;
         got.push(u8::try_from(number).unwrap_or(u8::MAX));
@@ -70,7 +73,7 @@ pub fn records(subject: &impl Subject, mut stored: &[u8]) -> Report {
 
 /// The row with the subject's answer in the place of the stored one.
 fn record_row(subject: &impl Subject, row: &[u8]) -> Vec<u8> {
-    let (mut words, mut flat) = ([0; 2], [0; FLAT]);
+    let (mut words, mut flat) = ([UNWRITTEN; 2], [0; FLAT]);
     let at = two_bytes(&row[2..]).into();
     let number = subject.read_record(&row[HEAD..], at, &mut flat, &mut words);
     let mut got = row[..4].to_vec();

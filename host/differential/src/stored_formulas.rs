@@ -99,7 +99,7 @@ fn image_row(subject: &impl Formulas, row: &[u8]) -> Vec<u8> {
     let mut rest = Rest(row);
     let image = rest.bytes(IMAGE);
     let free = rest.words(VALUE);
-    let (mut out, mut written) = ([0; VALUE], [0; IMAGE]);
+    let (mut out, mut written) = ([UNWRITTEN; VALUE], [0; IMAGE]);
     let number = subject.image_read(image, free[0], free[1], &mut out);
     if number == plain::MODELLED {
         subject.image_write(&mut written, out[0], out[1]);

@@ -29,7 +29,7 @@ type Mislift = fn(&[u64; STATE], &Instruction, &mut Step);
 impl Echo {
     fn asked(&self, flat: &[u8]) -> Vec<u8> {
         let mut seen = flat.to_vec();
-        if let (Some(misread), Ok(flat)) = (self.misread, <&[u8; FLAT]>::try_from(flat)) {
+        if let (Some(misread), Some(flat)) = (self.misread, flat.first_chunk()) {
             let mut insn = Instruction::from_flat(flat);
             misread(&mut insn);
             seen = insn.to_flat().to_vec();
@@ -58,10 +58,14 @@ impl Subject for Echo {
     }
 
     fn read_record(&self, input: &[u8], at: usize, flat: &mut [u8], out: &mut [u64]) -> u32 {
-        if flat.len() < FLAT || out.len() < 2 {
+        if out.len() < 2 {
             return plain::TOO_SHORT;
         }
-        let (number, place, insn) = records::told(&plain::read(input, at));
+        let (number, place, insn) = if flat.len() < FLAT {
+            (plain::TOO_SHORT, 0, None)
+        } else {
+            records::told(&plain::read(input, at))
+        };
         out[..2].copy_from_slice(&[place as u64, insn.is_some().into()]);
         if let Some(insn) = insn {
             flat[..FLAT].copy_from_slice(&insn);
@@ -84,7 +88,7 @@ impl Subject for Echo {
         let Some(mut step) = expected.step else {
             return expected.number;
         };
-        if let (Some(mislift), Ok(flat)) = (self.mislift, <&[u8; FLAT]>::try_from(flat)) {
+        if let (Some(mislift), Some(flat)) = (self.mislift, flat.first_chunk()) {
             let before = state[..STATE].try_into().expect("13 words");
             let mut wrong = step.clone();
             mislift(&before, &Instruction::from_flat(flat), &mut wrong);
@@ -95,6 +99,40 @@ impl Subject for Echo {
         lift::write(nodes, statements, state, &step);
         state[..STATE].copy_from_slice(&step.state);
         step.answer
+    }
+}
+
+/// Takes an instruction of exactly 177 bytes alone.
+struct Exactly(Echo);
+
+impl Exactly {
+    /// The bytes, or none of them where there are more.
+    fn taken<'a>(&self, flat: &'a [u8]) -> &'a [u8] {
+        if flat.len() > FLAT { &[] } else { flat }
+    }
+}
+
+impl Subject for Exactly {
+    fn classify(&self, flat: &[u8], out: &mut [u64]) -> u32 {
+        self.0.classify(self.taken(flat), out)
+    }
+
+    fn effect(&self, flat: &[u8], out: &mut [u64]) -> u32 {
+        self.0.effect(self.taken(flat), out)
+    }
+
+    fn read_record(&self, input: &[u8], at: usize, flat: &mut [u8], out: &mut [u64]) -> u32 {
+        self.0.read_record(input, at, flat, out)
+    }
+
+    fn lift(
+        &self,
+        flat: &[u8],
+        state: &mut [u64],
+        nodes: &mut [u64],
+        statements: &mut [u64],
+    ) -> u32 {
+        self.0.lift(self.taken(flat), state, nodes, statements)
     }
 }
 
@@ -189,6 +227,28 @@ fn a_word_written_beyond_the_answer_is_reported() {
         ..Echo::default()
     });
     shown(&report, "classify with 12 words lent");
+}
+
+#[test]
+fn words_that_are_not_told_beside_a_refusal_are_reported() {
+    let miswrite = |number: u32, out: &mut [u64]| {
+        if number == plain::TOO_SHORT && out.len() > 1 {
+            out[1] = 1;
+        }
+    };
+    let subject = Echo {
+        miswrite: Some(miswrite),
+        ..Echo::default()
+    };
+    shown(&compared(&subject), "no instruction");
+    shown(&records::run(&subject, 30_000, 3), "read_record at ");
+}
+
+#[test]
+fn bytes_beyond_an_instruction_that_are_read_are_reported() {
+    let subject = Exactly(Echo::default());
+    shown(&classify::run(&subject, 40_000, 3), "classify with ");
+    shown(&lift::run(&subject, 20, 3), "");
 }
 
 #[test]

@@ -8,7 +8,7 @@ use differential::report::Report;
 use differential::solver::Solver;
 use differential::subject::{Formulas, Library, RecordLifter, Subject};
 use differential::{checks, images, left_out, record_lifts, stored, stored_formulas, values};
-use plain::state::ROW;
+use plain::state::{ROW, STATE};
 use plain::values::{VALUE, takes_given, value};
 
 /// A change of a row, with its number, before it is looked at.
@@ -365,6 +365,14 @@ fn a_wrong_reader_of_images_is_reported() {
         ..Faulty::default()
     };
     imaged(&subject, "image ");
+    // Words that are not told beside a refusal.
+    let subject = misjudged(|number, out| {
+        if number == 9 {
+            out[..2].fill(7);
+        }
+        number
+    });
+    imaged(&subject, "read of ");
     // No free pattern is too wide.
     imaged(
         &misjudged(|number, _| if number == 9 { 0 } else { number }),
@@ -421,7 +429,7 @@ impl RecordLifter for FaultyRecords {
 
 #[test]
 fn wrong_places_and_states_of_a_lifted_record_are_reported() {
-    let faults: [Mistell; 4] = [
+    let faults: [Mistell; 5] = [
         // A refusal of the lifter has the place behind the record.
         |number, _, _, out| {
             if number == 6 {
@@ -438,6 +446,12 @@ fn wrong_places_and_states_of_a_lifted_record_are_reported() {
         |number, _, state, _| {
             if number == 11 && !state.is_empty() {
                 state[0] += 1;
+            }
+        },
+        // A state that is too short has the record's own place.
+        |number, at, state, out| {
+            if number == 10 && state.len() < STATE && out.len() > 1 {
+                out[0] = at as u64 + 1;
             }
         },
         // A refusal of the reader has the record's own place.

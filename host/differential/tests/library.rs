@@ -9,6 +9,7 @@ use differential::{
     NO_ORACLE, checks, classify, images, left_out, lift, oracle, record_lifts, records, stored,
     values,
 };
+use sleetgate_sys::untested;
 
 fn equal(report: &Report) {
     println!("{report}");
@@ -141,15 +142,9 @@ fn the_binding_calls_the_library() {
 #[test]
 fn the_binding_tests_lengths_first() {
     let mut out = [7; 16];
-    assert_eq!(sleetgate_sys::classify(&[0; 176], &mut out), 10);
     assert_eq!(sleetgate_sys::classify(&[0; 177], &mut out[..7]), 10);
-    assert_eq!(sleetgate_sys::effect(&[0; 178], &mut out), 10);
     assert_eq!(sleetgate_sys::effect(&[0; 177], &mut out[..6]), 10);
     let mut flat = [7; 177];
-    assert_eq!(
-        sleetgate_sys::read_record(&[], 0, &mut flat[1..], &mut out),
-        10
-    );
     assert_eq!(
         sleetgate_sys::read_record(&[], 0, &mut flat, &mut out[..1]),
         10
@@ -163,4 +158,58 @@ fn the_binding_tests_lengths_first() {
         10
     );
     assert_eq!((out, flat), ([7; 16], [7; 177]));
+}
+
+/// A call that is lent words to tell.
+type Call = fn(&mut [u64]) -> u32;
+
+#[test]
+fn zeros_are_told_beside_10() {
+    let calls: [(usize, [Call; 2]); 5] = [
+        (
+            8,
+            [
+                |out| sleetgate_sys::classify(&[0; 176], out),
+                |out| untested::classify(&[0; 176], out),
+            ],
+        ),
+        (
+            7,
+            [
+                |out| sleetgate_sys::effect(&[0; 176], out),
+                |out| untested::effect(&[0; 176], out),
+            ],
+        ),
+        (
+            2,
+            [
+                |out| sleetgate_sys::read_record(&[], 0, &mut [0; 176], out),
+                |out| untested::read_record(&[], 0, &mut [0; 176], out),
+            ],
+        ),
+        (
+            2,
+            [
+                |out| sleetgate_sys::lift_record(&[], 0, &mut [0; 12], &mut [], &mut [], out),
+                |out| untested::lift_record(&[], 0, &mut [0; 12], &mut [], &mut [], out),
+            ],
+        ),
+        (
+            2,
+            [
+                |out| sleetgate_sys::image_read(&[0; 9], 0, 0, out),
+                |out| untested::image_read(&[0; 9], 0, 0, out),
+            ],
+        ),
+    ];
+    for (words, both) in calls {
+        for call in both {
+            let mut out = [7; 16];
+            assert_eq!(call(&mut out[..words - 1]), 10);
+            assert_eq!(out, [7; 16]);
+            assert_eq!(call(&mut out), 10);
+            assert_eq!(out[..words], [0; 16][..words]);
+            assert_eq!(out[words..], [7; 16][words..]);
+        }
+    }
 }

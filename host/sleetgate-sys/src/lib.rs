@@ -1,10 +1,13 @@
 //! Safe binding to the static library of the proved crates.
 //!
 //! A lent slice passes as a pointer and a length. The library is total:
-//! it answers 10 where a slice is too short, and writes nothing then. The
-//! functions here test the lengths themselves before they call it; those
-//! in [`untested`] hand over any slices as they are, so that the
-//! library's own tests can be compared.
+//! it answers 10 where a slice is too short. The words of `out` are told
+//! whenever there is room for them, beside every refusal too, and are 0
+//! then, but a node or a place that is named; where they have no room
+//! nothing is written. All else that is lent stays as it was beside a
+//! refusal. The functions here test the lengths themselves before they
+//! call the library; those in [`untested`] hand over any slices as they
+//! are, so that the library's own tests can be compared.
 
 /// Bytes of an instruction.
 pub const FLAT: usize = 177;
@@ -45,20 +48,28 @@ pub const MISSING: &str = "the static library of the proved crates is not there;
 /// What is said where the library has no lifter.
 pub const MISSING_LIFT: &str = "the static library does not export x87_lift";
 
-/// Classify the 177 bytes of an instruction. The first eight words of
-/// `out` become the form; words beyond stay.
+/// 10, and zeros for the words that are told, where they have room.
+fn too_short(out: &mut [u64], told: usize) -> u32 {
+    if let Some(words) = out.get_mut(..told) {
+        words.fill(0);
+    }
+    TOO_SHORT
+}
+
+/// Classify the instruction in the first 177 bytes. The first eight words
+/// of `out` become the form; words beyond stay.
 pub fn classify(flat: &[u8], out: &mut [u64]) -> u32 {
-    if flat.len() != FLAT || out.len() < FORM {
-        return TOO_SHORT;
+    if flat.len() < FLAT || out.len() < FORM {
+        return too_short(out, FORM);
     }
     untested::classify(flat, out)
 }
 
-/// The effect of the 177 bytes of an instruction. The first seven words
-/// of `out` become 0 or 1; words beyond stay.
+/// The effect of the instruction in the first 177 bytes. The first seven
+/// words of `out` become 0 or 1; words beyond stay.
 pub fn effect(flat: &[u8], out: &mut [u64]) -> u32 {
-    if flat.len() != FLAT || out.len() < EFFECT {
-        return TOO_SHORT;
+    if flat.len() < FLAT || out.len() < EFFECT {
+        return too_short(out, EFFECT);
     }
     untested::effect(flat, out)
 }
@@ -68,16 +79,16 @@ pub fn effect(flat: &[u8], out: &mut [u64]) -> u32 {
 /// read; the first 177 bytes of `flat` become the instruction then.
 pub fn read_record(input: &[u8], at: usize, flat: &mut [u8], out: &mut [u64]) -> u32 {
     if flat.len() < FLAT || out.len() < READ {
-        return TOO_SHORT;
+        return too_short(out, READ);
     }
     untested::read_record(input, at, flat, out)
 }
 
-/// Lift the 177 bytes of an instruction. The first 13 words of `state`
-/// become the next state: eight slots, depth, nodes, statements, inputs,
+/// Lift the instruction in the first 177 bytes. The first 13 words of
+/// `state` become the next state: eight slots, depth, nodes, statements, inputs,
 /// temporaries. The lists are rows of four words.
 pub fn lift(flat: &[u8], state: &mut [u64], nodes: &mut [u64], statements: &mut [u64]) -> u32 {
-    if flat.len() != FLAT || state.len() < STATE {
+    if flat.len() < FLAT || state.len() < STATE {
         return TOO_SHORT;
     }
     untested::lift(flat, state, nodes, statements)
@@ -97,7 +108,7 @@ pub fn lift_record(
     out: &mut [u64],
 ) -> u32 {
     if state.len() < STATE || out.len() < READ {
-        return TOO_SHORT;
+        return too_short(out, READ);
     }
     untested::lift_record(input, at, state, nodes, statements, out)
 }
@@ -106,7 +117,7 @@ pub fn lift_record(
 /// pattern, or the free pattern where it has no number.
 pub fn image_read(image: &[u8], low: u64, high: u64, out: &mut [u64]) -> u32 {
     if image.len() < IMAGE || out.len() < VALUE {
-        return TOO_SHORT;
+        return too_short(out, VALUE);
     }
     untested::image_read(image, low, high, out)
 }

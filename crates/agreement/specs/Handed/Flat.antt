@@ -116,11 +116,11 @@ flat-long i f =
       operand-long (operandOf i 2) (f .third),
     )
 
--- 177 bytes over which they were written begin with them
-pub laid-at : (l : List ℕ) (i : Instruction) → length l ≡ 177 → InsnFits i → At (laid l 0 (flatOf i)) 0 (flatOf i)
+-- bytes over which they were written begin with them
+pub laid-at : (l : List ℕ) (i : Instruction) → 177 ≤ length l → InsnFits i → At (laid l 0 (flatOf i)) 0 (flatOf i)
 unfolding laid
 laid-at l i e f =
     record {
       rest = drop (length (flatOf i)) l;
-      is = sets-eq (flatOf i) l 0 (rw (flat-long i f, e) (omega arith)) ∙ rw (zero-add (length (flatOf i)));
+      is = sets-eq (flatOf i) l 0 (rw (flat-long i f) (omega arith)) ∙ rw (zero-add (length (flatOf i)));
     }

@@ -2,7 +2,7 @@
 use mathlib.Core.Path.{_≡_, refl, sym, ap, _∙_}
 use mathlib.Core.Bool.{true}
 use mathlib.Core.List.{List, []}
-use Prim.Native.Nat.{ℕ, zero, suc, _+_, _/_, _≤_, _<_}
+use Prim.Native.Nat.{ℕ, zero, suc, _+_, _≤_, _<_}
 use native.Mathlib.Omega.{arith}
 use borrow.Author.Tests.{le-leb}
 use lib.ListN.{length, getD, take}
@@ -50,12 +50,10 @@ module _ {Γ : List ℕ} {h : Held} (t : Tracks [] 0 Γ h) where
   tracked-valid = placed-valid Γ (h .st) _ _ (t .placed) (t .room) (t .room′)
 
   pub tracked-passes : checkOf (h .nodes) (h .st .nodes) ≡ Passed
-  unfolding checkOf roomOf
+  unfolding checkOf
   tracked-passes =
       let c = t .placed .count in
-      let a : h .st .nodes ≤ 65535 = omega (arith, t .room) in
-      let b : h .st .nodes ≤ length (h .nodes) / 4 = omega (arith, t .room) in
-      rw (le-leb _ _ a, le-leb _ _ b) (sorted-passes (h .nodes) (h .st .nodes)
+      rw (le-leb _ _ (t .room)) (sorted-passes (h .nodes) (h .st .nodes)
       (λ i k z. stand i (omega arith) .some (sym (stand i (omega arith) .sort) ∙ rw (sorts-are (h .nodes) Γ stand i (omega arith)) at z)))
 
 fresh-placed : Placed [] fresh

@@ -1,41 +1,26 @@
-use mathlib.Core.Path.{_≡_, refl, sym, _∙_, ap}
+use mathlib.Core.Path.{refl, sym, _∙_}
 use native.Mathlib.Omega.{arith}
 use Prim.Native.Nat.{ℕ}
-use lib.ListN.{length, replicate, length-replicate}
-use Rattle.sorts.specs.Check.{checkOf, tabulateOf}
-use Rattle.sorts.specs.Laws.{tabulate-all, passed-room}
-use Rattle.sorts.specs.declared.Verdict.{Verdict}
+use lib.ListN.{length, length-replicate}
+use Rattle.sorts.specs.Laws.{passed-room}
 use Rattle.evaluator.specs.Laws.{done-fits}
-use Rattle.evaluator.specs.Outcome.{after}
-use Rattle.evaluator.specs.Lists.{wideFrom}
-use Rattle.evaluator.proofs.Ends.{table-sorts, table-long, no-given, no-column, outcome-after}
+use Rattle.evaluator.proofs.Filled.{scanned}
+use Rattle.evaluator.proofs.Ends.{no-given, no-column, ended}
 use borrow.Author.Needs.{needs}
 use Rattle.evaluator.proofs.evaluate.Statement.{statement}
 use Rattle.evaluator.proofs.evaluate.Tie as tie
 
 returns : tie.Need-returns
-returns c =
-    let a = c .before .before .before .before .args in
-    let w = a .nodes .now in
-    let g = a .given .now in
-    let n = a .count in
-    let m = length (a .column .now) in
-    (sym (no-given w g n m (c .if1 .taken)), refl)
+returns c = let a = c .before .before .before .before .args in (sym (no-given (a .nodes .now) (a .given .now) (a .count) (length (a .column .now)) (c .if1 .taken)), refl)
 
 returns-2 : tie.Need-returns-2
-returns-2 c =
-    let a = c .before .before .before .before .before .args in
-    let w = a .nodes .now in
-    let g = a .given .now in
-    let n = a .count in
-    let m = length (a .column .now) in
-    (sym (no-column w g n m (c .if2 .taken)), refl)
+returns-2 c = let a = c .before .before .before .before .before .args in (sym (no-column (a .nodes .now) (a .given .now) (a .count) (length (a .column .now)) (c .if2 .taken)), refl)
 
 slice-aggregate-tabulate : tie.Need-slice-aggregate-tabulate
 slice-aggregate-tabulate c = search needs
 
 tabulate-requires : tie.Need-tabulate-requires
-tabulate-requires c κs = search needs
+tabulate-requires c κs = omega (arith, length-replicate {A = ℕ} 65536 0)
 
 enum-told : tie.Need-enum-told
 enum-told c = search needs
@@ -50,23 +35,7 @@ slice-aggregate-first-wide : tie.Need-slice-aggregate-first-wide
 slice-aggregate-first-wide c = search needs
 
 first-wide-requires : tie.Need-first-wide-requires
-first-wide-requires c κs =
-    let a = c .before .before .before .before .before .before .before .before .before .before .before .args in
-    let w = a .nodes .now in
-    let g = a .given .now in
-    let n = a .count in
-    let m = length (a .column .now) in
-    let t = c .before .before .before .before .tabulate in
-    let v : t .result ≡ checkOf w n = t .ensures .0 ∙ ap (tabulateOf w n) (length-replicate {A = ℕ} 65536 0) ∙ tabulate-all w n in
-    let p = c .before .enum-told2 .given .1 in
-    let r = passed-room w n (sym v ∙ p) in
-    record {
-      words = omega (arith, r .held);
-      gave = omega arith;
-      few = r .few;
-      long = table-long w (replicate 65536 0) _ n (t .result) p (t .ensures .1);
-      table = table-sorts w (replicate 65536 0) _ n (t .result) p (t .ensures .1);
-    }
+first-wide-requires c κs = scanned _ _ _ _ _ (c .before .before .before .before .tabulate .ensures) (c .before .enum-told2 .given .1) (omega arith)
 
 enum-told-3 : tie.Need-enum-told-3
 enum-told-3 c = search needs
@@ -76,26 +45,13 @@ slice-aggregate-run c = search needs
 
 run-requires : tie.Need-run-requires
 run-requires c κs =
-    let a = c .before .before .before .before .before .before .before .before .before .before .before .before .before .before .before .before .args in
-    let w = a .nodes .now in
-    let g = a .given .now in
-    let n = a .count in
-    let m = length (a .column .now) in
-    let t = c .before .before .before .before .before .before .before .before .before .tabulate in
-    let v : t .result ≡ checkOf w n = t .ensures .0 ∙ ap (tabulateOf w n) (length-replicate {A = ℕ} 65536 0) ∙ tabulate-all w n in
+    let t = c .before .before .before .before .before .before .before .before .before .tabulate .ensures in
     let p = c .before .before .before .before .before .before .enum-told2 .given .1 in
-    let r = passed-room w n (sym v ∙ p) in
     record {
-      scan = record {
-        words = omega (arith, r .held);
-        gave = omega arith;
-        few = r .few;
-        long = table-long w (replicate 65536 0) _ n (t .result) p (t .ensures .1);
-        table = table-sorts w (replicate 65536 0) _ n (t .result) p (t .ensures .1);
-      };
+      scan = scanned _ _ _ _ _ t p (omega arith);
       room = omega arith;
-      passes = r .passes;
-      given = done-fits w g n (sym (c .before .before .before .before .first-wide .ensures) ∙ c .before .before .enum-told3 .given .1);
+      passes = passed-room _ _ (sym (t .verdict) ∙ p) .passes;
+      given = done-fits _ _ _ (sym (c .before .before .before .before .first-wide .ensures) ∙ c .before .before .enum-told3 .given .1);
     }
 
 enum-known-i-2 : tie.Need-enum-known-i-2
@@ -110,24 +66,14 @@ enum-told-4 c = search needs
 returns-3 : tie.Need-returns-3
 returns-3 c =
     let a = c .before .before .before .before .before .before .before .before .before .before .args in
-    let w = a .nodes .now in
-    let g = a .given .now in
-    let n = a .count in
-    let m = length (a .column .now) in
-    let t = c .before .before .before .tabulate in
-    let v : t .result ≡ checkOf w n = t .ensures .0 ∙ ap (tabulateOf w n) (length-replicate {A = ℕ} 65536 0) ∙ tabulate-all w n in
-    (sym (outcome-after w g n m (t .result) (omega arith) (omega arith) v ∙ ap (λ (x : Verdict). after x (wideFrom w g 0 n)) (c .enum-told .given .1)), refl)
+    let t = c .before .before .before .tabulate .ensures in
+    (sym (ended (a .nodes .now) (a .given .now) (a .count) (length (a .column .now)) _ _ (omega arith) (omega arith) (t .verdict) (c .enum-told .given .1)), refl)
 
 returns-4 : tie.Need-returns-4
 returns-4 c =
     let a = c .before .before .before .before .before .before .before .before .before .before .before .args in
-    let w = a .nodes .now in
-    let g = a .given .now in
-    let n = a .count in
-    let m = length (a .column .now) in
-    let t = c .before .before .before .before .tabulate in
-    let v : t .result ≡ checkOf w n = t .ensures .0 ∙ ap (tabulateOf w n) (length-replicate {A = ℕ} 65536 0) ∙ tabulate-all w n in
-    (sym (outcome-after w g n m (t .result) (omega arith) (omega arith) v ∙ ap (λ (x : Verdict). after x (wideFrom w g 0 n)) (c .before .i .given .1)), refl)
+    let t = c .before .before .before .before .tabulate .ensures in
+    (sym (ended (a .nodes .now) (a .given .now) (a .count) (length (a .column .now)) _ _ (omega arith) (omega arith) (t .verdict) (c .before .i .given .1)), refl)
 
 same-length : tie.Need-same-length
 same-length c = search needs
@@ -135,46 +81,26 @@ same-length c = search needs
 returns-5 : tie.Need-returns-5
 returns-5 c =
     let a = c .before .before .before .before .before .before .before .before .before .before .before .before .before .before .before .before .before .before .before .args in
-    let w = a .nodes .now in
-    let g = a .given .now in
-    let n = a .count in
-    let m = length (a .column .now) in
-    let t = c .before .before .before .before .before .before .before .before .before .before .before .before .tabulate in
-    let v : t .result ≡ checkOf w n = t .ensures .0 ∙ ap (tabulateOf w n) (length-replicate {A = ℕ} 65536 0) ∙ tabulate-all w n in
-    (sym (outcome-after w g n m (t .result) (omega arith) (omega arith) v ∙ ap (λ (x : Verdict). after x (wideFrom w g 0 n)) (c .before .before .before .before .before .before .before .before .before .enum-told2 .given .1) ∙ sym (c .before .before .before .before .before .before .before .first-wide .ensures) ∙ c .before .before .before .before .before .enum-told3 .given .1), c .before .before .run .ensures)
+    let t = c .before .before .before .before .before .before .before .before .before .before .before .before .tabulate .ensures in
+    (sym (ended (a .nodes .now) (a .given .now) (a .count) (length (a .column .now)) _ _ (omega arith) (omega arith) (t .verdict) (c .before .before .before .before .before .before .before .before .before .enum-told2 .given .1) ∙ sym (c .before .before .before .before .before .before .before .first-wide .ensures) ∙ c .before .before .before .before .before .enum-told3 .given .1), c .before .before .run .ensures)
 
 returns-6 : tie.Need-returns-6
 returns-6 c =
     let a = c .before .before .before .before .before .before .before .before .before .before .before .before .before .before .before .args in
-    let w = a .nodes .now in
-    let g = a .given .now in
-    let n = a .count in
-    let m = length (a .column .now) in
-    let t = c .before .before .before .before .before .before .before .before .tabulate in
-    let v : t .result ≡ checkOf w n = t .ensures .0 ∙ ap (tabulateOf w n) (length-replicate {A = ℕ} 65536 0) ∙ tabulate-all w n in
-    (sym (outcome-after w g n m (t .result) (omega arith) (omega arith) v ∙ ap (λ (x : Verdict). after x (wideFrom w g 0 n)) (c .before .before .before .before .before .enum-told2 .given .1) ∙ sym (c .before .before .before .first-wide .ensures) ∙ c .before .i2 .given .1), refl)
+    let t = c .before .before .before .before .before .before .before .before .tabulate .ensures in
+    (sym (ended (a .nodes .now) (a .given .now) (a .count) (length (a .column .now)) _ _ (omega arith) (omega arith) (t .verdict) (c .before .before .before .before .before .enum-told2 .given .1) ∙ sym (c .before .before .before .first-wide .ensures) ∙ c .before .i2 .given .1), refl)
 
 returns-7 : tie.Need-returns-7
 returns-7 c =
     let a = c .before .before .before .before .before .before .before .before .before .before .before .before .before .before .before .args in
-    let w = a .nodes .now in
-    let g = a .given .now in
-    let n = a .count in
-    let m = length (a .column .now) in
-    let t = c .before .before .before .before .before .before .before .before .tabulate in
-    let v : t .result ≡ checkOf w n = t .ensures .0 ∙ ap (tabulateOf w n) (length-replicate {A = ℕ} 65536 0) ∙ tabulate-all w n in
-    (sym (outcome-after w g n m (t .result) (omega arith) (omega arith) v ∙ ap (λ (x : Verdict). after x (wideFrom w g 0 n)) (c .before .before .before .before .before .enum-told2 .given .1) ∙ sym (c .before .before .before .first-wide .ensures) ∙ c .before .i3 .given .1), refl)
+    let t = c .before .before .before .before .before .before .before .before .tabulate .ensures in
+    (sym (ended (a .nodes .now) (a .given .now) (a .count) (length (a .column .now)) _ _ (omega arith) (omega arith) (t .verdict) (c .before .before .before .before .before .enum-told2 .given .1) ∙ sym (c .before .before .before .first-wide .ensures) ∙ c .before .i3 .given .1), refl)
 
 returns-8 : tie.Need-returns-8
 returns-8 c =
     let a = c .before .before .before .before .before .before .before .before .before .before .before .before .before .before .args in
-    let w = a .nodes .now in
-    let g = a .given .now in
-    let n = a .count in
-    let m = length (a .column .now) in
-    let t = c .before .before .before .before .before .before .before .tabulate in
-    let v : t .result ≡ checkOf w n = t .ensures .0 ∙ ap (tabulateOf w n) (length-replicate {A = ℕ} 65536 0) ∙ tabulate-all w n in
-    (sym (outcome-after w g n m (t .result) (omega arith) (omega arith) v ∙ ap (λ (x : Verdict). after x (wideFrom w g 0 n)) (c .before .before .before .before .enum-told2 .given .1) ∙ sym (c .before .before .first-wide .ensures) ∙ c .enum-told4 .given .1), refl)
+    let t = c .before .before .before .before .before .before .before .tabulate .ensures in
+    (sym (ended (a .nodes .now) (a .given .now) (a .count) (length (a .column .now)) _ _ (omega arith) (omega arith) (t .verdict) (c .before .before .before .before .enum-told2 .given .1) ∙ sym (c .before .before .first-wide .ensures) ∙ c .enum-told4 .given .1), refl)
 
 pub evaluate-spec : {M : Type 1} → statement M
 evaluate-spec =

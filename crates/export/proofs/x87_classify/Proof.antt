@@ -1,4 +1,7 @@
-use Rattle.export.proofs.Calls.{wrote, quiet, is-ready, no-room, no-bytes}
+use mathlib.Core.Path.{refl}
+use borrow.Author.Tests.{le-leb, lt-leb}
+use Rattle.export.specs.Answers.{classified}
+use Rattle.export.proofs.Calls.{tells, untold}
 use borrow.Author.Needs.{needs}
 use Rattle.export.proofs.x87_classify.Statement.{statement}
 use Rattle.export.proofs.x87_classify.Tie as tie
@@ -25,18 +28,31 @@ same-length : tie.Need-same-length
 same-length c = search needs
 
 returns : tie.Need-returns
+unfolding classified
 returns c =
     let d = c .before .before .before in
     let e = d .before .before .before in
     let b = e .before .before .before in
     let q = rw (e .before .before .read .ensures) at (e .before .classify .ensures) in
-    wrote _ _ _ _ _ _ (is-ready _ _ 8 (b .before .if1 .taken) (b .if2 .taken)) (rw q at (c .number .ensures)) (rw (← q, ← e .fields .ensures) (d .lay .ensures))
+    rw (le-leb _ _ (b .if2 .taken)) (tells _ _ _ (b .before .if1 .taken) (rw q at (c .number .ensures)) (rw (← q, ← e .fields .ensures) (d .lay .ensures)))
+
+slice-aggregate-lay-2 : tie.Need-slice-aggregate-lay-2
+slice-aggregate-lay-2 c = search needs
+
+lay-requires-2 : tie.Need-lay-requires-2
+lay-requires-2 c κs = search needs
+
+same-length-2 : tie.Need-same-length-2
+same-length-2 c = search needs
 
 returns-2 : tie.Need-returns-2
-returns-2 c = quiet _ _ _ _ (no-room _ _ 8 (c .before .if1 .taken) (c .if2 .left))
+unfolding classified
+returns-2 c =
+    let b = c .before .before .before .before .before in
+    rw (lt-leb _ _ (b .if2 .left)) (tells _ _ _ (b .before .if1 .taken) refl (c .before .before .lay2 .ensures))
 
 returns-3 : tie.Need-returns-3
-returns-3 c = quiet _ _ _ _ (no-bytes _ _ 8 (c .if1 .left))
+returns-3 c = untold _ _ _ (c .if1 .left)
 
 pub x87-classify-spec : {M : Type 1} → statement M
 x87-classify-spec =
@@ -50,5 +66,8 @@ x87-classify-spec =
     number-requires
     same-length
     returns
+    slice-aggregate-lay-2
+    lay-requires-2
+    same-length-2
     returns-2
     returns-3)

@@ -1,4 +1,4 @@
-use Rattle.export.proofs.Lifting.{from-flat, short-state, not-flat}
+use Rattle.export.proofs.Lifting.{from-flat, short-state, short-flat}
 use borrow.Author.Needs.{needs}
 use Rattle.export.proofs.x87_lift.Statement.{statement}
 use Rattle.export.proofs.x87_lift.Tie as tie
@@ -25,7 +25,7 @@ returns-2 : tie.Need-returns-2
 returns-2 c = short-state _ _ _ _ (c .before .if1 .taken) (c .if2 .left)
 
 returns-3 : tie.Need-returns-3
-returns-3 c = not-flat _ _ _ _ (c .if1 .left)
+returns-3 c = short-flat _ _ _ _ (c .if1 .left)
 
 pub x87-lift-spec : {M : Type 1} → statement M
 x87-lift-spec =

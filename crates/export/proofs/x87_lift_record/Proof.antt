@@ -1,5 +1,5 @@
 use mathlib.Core.Path.{sym, _∙_}
-use Rattle.export.proofs.Lifting.{steps-on, stops, few-told, few-state}
+use Rattle.export.proofs.Lifting.{steps-on, stops, few-state, few-told}
 use borrow.Author.Needs.{needs}
 use Rattle.export.proofs.x87_lift_record.Statement.{statement}
 use Rattle.export.proofs.x87_lift_record.Tie as tie
@@ -33,8 +33,11 @@ same-length-4 c = search needs
 
 returns : tie.Need-returns
 returns c =
-    let t = c .before .before .before .before .before .before .before .before .before .before .before .before .before .before .before .before .before .before .record-at .ensures in
-    rw (← t) (steps-on _ _ _ _ _ _ (c .before .before .before .before .before .before .before .before .before .before .before .before .before .before .before .before .before .before .before .before .if1 .taken) (c .before .before .before .before .before .before .before .before .before .before .before .before .before .before .before .before .before .before .before .if2 .taken) _ _ _ _ _ (sym (c .before .before .before .before .before .before .before .before .before .before .before .before .before .before .before .is-record .ensures) ∙ c .before .before .before .before .before .before .before .before .before .before .before .before .before .before .if3 .taken) (c .before .before .before .before .before .before .before .before .before .before .lift-in .ensures) (rw (← c .before .before .before .before .before .before .before .before .before .before .before .before .before .before .before .before .place .ensures) (c .before .before .tell .ensures)))
+    let b = c .before .before .before .before .before .before .before .before .before .before .before .before .before .before in
+    let t = b .before .before .before .before .record-at .ensures in
+    rw (← t)
+    (steps-on _ _ _ _ _ _ (c .before .before .before .before .before .before .before .before .before .before .before .before .before .before .before .before .before .before .before .before .if1 .taken) (c .before .before .before .before .before .before .before .before .before .before .before .before .before .before .before .before .before .before .before .if2 .taken) _ _ _ _ _ (sym (b .before .is-record .ensures) ∙ b .if3 .taken) (c .before .before .before .before .before .before .before .before .before .before .lift-in .ensures)
+    (rw (← b .before .before .place .ensures) (c .before .before .tell .ensures)))
 
 slice-aggregate-lay : tie.Need-slice-aggregate-lay
 slice-aggregate-lay c = search needs
@@ -50,14 +53,26 @@ same-length-5 c = search needs
 
 returns-2 : tie.Need-returns-2
 returns-2 c =
-    let t = c .before .before .before .before .before .before .before .before .before .before .record-at .ensures in
-    rw (← t) (stops _ _ _ _ _ _ (c .before .before .before .before .before .before .before .before .before .before .before .before .if1 .taken) (c .before .before .before .before .before .before .before .before .before .before .before .if2 .taken) _ _ (sym (c .before .before .before .before .before .before .before .is-record .ensures) ∙ c .before .before .before .before .before .before .if3 .left) (c .outcome-number .ensures) (rw (← c .before .before .before .before .before .before .before .before .place .ensures) (c .before .before .before .lay .ensures)))
+    let b = c .before .before .before .before .before .before in
+    let t = b .before .before .before .before .record-at .ensures in
+    rw (← t)
+    (stops _ _ _ _ _ _ (c .before .before .before .before .before .before .before .before .before .before .before .before .if1 .taken) (c .before .before .before .before .before .before .before .before .before .before .before .if2 .taken) _ _ (sym (b .before .is-record .ensures) ∙ b .if3 .left) (c .outcome-number .ensures)
+    (rw (← b .before .before .place .ensures) (c .before .before .before .lay .ensures)))
+
+slice-aggregate-lay-2 : tie.Need-slice-aggregate-lay-2
+slice-aggregate-lay-2 c = search needs
+
+lay-requires-2 : tie.Need-lay-requires-2
+lay-requires-2 c κs = search needs
+
+same-length-6 : tie.Need-same-length-6
+same-length-6 c = search needs
 
 returns-3 : tie.Need-returns-3
-returns-3 c = few-told _ _ _ _ _ _ (c .before .if1 .taken) (c .if2 .left)
+returns-3 c = few-state _ _ _ _ _ _ (c .before .before .before .before .before .before .if1 .taken) (c .before .before .before .before .before .if2 .left) _ (c .before .before .lay2 .ensures)
 
 returns-4 : tie.Need-returns-4
-returns-4 c = few-state _ _ _ _ _ _ (c .if1 .left)
+returns-4 c = few-told _ _ _ _ _ _ (c .if1 .left)
 
 pub x87-lift-record-spec : {M : Type 1} → statement M
 x87-lift-record-spec =
@@ -78,5 +93,8 @@ x87-lift-record-spec =
     outcome-number-requires
     same-length-5
     returns-2
+    slice-aggregate-lay-2
+    lay-requires-2
+    same-length-6
     returns-3
     returns-4)

@@ -1,4 +1,7 @@
-use Rattle.export.proofs.Calls.{wrote, quiet, is-roomy, few-words, few-bytes}
+use mathlib.Core.Path.{refl}
+use borrow.Author.Tests.{le-leb, lt-leb}
+use Rattle.export.specs.Answers.{readInto}
+use Rattle.export.proofs.Calls.{tells, untold}
 use borrow.Author.Needs.{needs}
 use Rattle.export.proofs.x87_read_record.Statement.{statement}
 use Rattle.export.proofs.x87_read_record.Tie as tie
@@ -34,23 +37,39 @@ same-length-2 : tie.Need-same-length-2
 same-length-2 c = search needs
 
 returns : tie.Need-returns
+unfolding readInto
 returns c =
     let d = c .before .before .before in
     let e = d .before .before .before .before in
     let f = e .before .before .before in
     let b = f .before .before .before .before in
     let t = b .record-at .ensures in
-    let h = is-roomy _ _ (b .before .before .if1 .taken) (b .before .if2 .taken) in
+    let h = le-leb _ _ (b .before .if2 .taken) in
+    let k = b .before .before .if1 .taken in
     record {
-      told = wrote _ _ _ _ _ _ h (rw t at (c .outcome-number .ensures)) (rw (← t, ← f .before .before .is-record .ensures, ← f .before .place .ensures, ← f .bit .ensures) (e .lay .ensures));
-      bytes = rw (h, ← t, ← f .before .before .is-record .ensures) (d .write-if .ensures);
+      told = rw h (tells _ _ _ k (rw t at (c .outcome-number .ensures)) (rw (← t, ← f .before .before .is-record .ensures, ← f .before .place .ensures, ← f .bit .ensures) (e .lay .ensures)));
+      bytes = rw (le-leb _ _ k, h, ← t, ← f .before .before .is-record .ensures) (d .write-if .ensures);
     }
 
+slice-aggregate-lay-2 : tie.Need-slice-aggregate-lay-2
+slice-aggregate-lay-2 c = search needs
+
+lay-requires-2 : tie.Need-lay-requires-2
+lay-requires-2 c κs = search needs
+
+same-length-3 : tie.Need-same-length-3
+same-length-3 c = search needs
+
 returns-2 : tie.Need-returns-2
-returns-2 c = let h = few-words _ _ (c .before .if1 .taken) (c .if2 .left) in record { told = quiet _ _ _ _ h; bytes = rw h }
+unfolding readInto
+returns-2 c =
+    let b = c .before .before .before .before .before in
+    let h = lt-leb _ _ (b .if2 .left) in
+    let k = b .before .if1 .taken in
+    record { told = rw h (tells _ _ _ k refl (c .before .before .lay2 .ensures)); bytes = rw (le-leb _ _ k, h) }
 
 returns-3 : tie.Need-returns-3
-returns-3 c = let h = few-bytes _ _ (c .if1 .left) in record { told = quiet _ _ _ _ h; bytes = rw h }
+returns-3 c = record { told = untold _ _ _ (c .if1 .left); bytes = rw (lt-leb _ _ (c .if1 .left)) }
 
 pub x87-read-record-spec : {M : Type 1} → statement M
 x87-read-record-spec =
@@ -67,5 +86,8 @@ x87-read-record-spec =
     same-length
     same-length-2
     returns
+    slice-aggregate-lay-2
+    lay-requires-2
+    same-length-3
     returns-2
     returns-3)

@@ -1,7 +1,6 @@
-use borrow.Author.Tests.{le-leb, lt-leb}
-use Rattle.export.specs.Values.{Checks}
 use Rattle.export.specs.Flat.{laid}
-use Rattle.export.proofs.Calls.{wrote, quiet}
+use Rattle.export.specs.Values.{ChecksNodes}
+use Rattle.export.proofs.Calls.{tells, untold}
 use borrow.Author.Needs.{needs}
 use Rattle.export.proofs.values.x87_check.Statement.{statement}
 use Rattle.export.proofs.values.x87_check.Tie as tie
@@ -22,14 +21,14 @@ same-length : tie.Need-same-length
 same-length c = search needs
 
 returns : tie.Need-returns
-unfolding Checks laid
+unfolding ChecksNodes laid
 returns c =
     let v = c .before .before .check .ensures in
-    wrote _ _ _ _ _ _ (le-leb _ _ (c .before .before .before .if1 .taken)) (rw v at (c .verdict-number .ensures)) (rw (← v, ← c .before .verdict-node .ensures))
+    tells _ _ _ (c .before .before .before .if1 .taken) (rw v at (c .verdict-number .ensures)) (rw (← v, ← c .before .verdict-node .ensures))
 
 returns-2 : tie.Need-returns-2
-unfolding Checks
-returns-2 c = quiet _ _ _ _ (lt-leb _ _ (c .if1 .left))
+unfolding ChecksNodes
+returns-2 c = untold _ _ _ (c .if1 .left)
 
 pub x87-check-spec : {M : Type 1} → statement M
 x87-check-spec =

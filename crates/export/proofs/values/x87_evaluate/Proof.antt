@@ -1,6 +1,6 @@
 use borrow.Author.Tests.{le-leb, lt-leb}
 use Rattle.export.specs.Flat.{laid}
-use Rattle.export.proofs.Calls.{wrote, quiet}
+use Rattle.export.proofs.Calls.{tells, untold}
 use borrow.Author.Needs.{needs}
 use Rattle.export.proofs.values.x87_evaluate.Statement.{statement}
 use Rattle.export.proofs.values.x87_evaluate.Tie as tie
@@ -27,14 +27,14 @@ returns : tie.Need-returns
 unfolding laid
 returns c =
     let e = c .before .before .before .before .evaluate .ensures in
-    let h = le-leb _ _ (c .before .before .before .before .before .before .if1 .taken) in
+    let h = c .before .before .before .before .before .before .if1 .taken in
     record {
-      told = wrote _ _ _ _ _ _ h (rw (e .0) at (c .outcome-number .ensures)) (rw (← e .0, ← c .before .outcome-node .ensures));
-      column = rw (h, ← e .0) (e .1);
+      told = tells _ _ _ h (rw (e .0) at (c .outcome-number .ensures)) (rw (← e .0, ← c .before .outcome-node .ensures));
+      column = rw (le-leb _ _ h, ← e .0) (e .1);
     }
 
 returns-2 : tie.Need-returns-2
-returns-2 c = let h = lt-leb _ _ (c .if1 .left) in record { told = quiet _ _ _ _ h; column = rw h }
+returns-2 c = record { told = untold _ _ _ (c .if1 .left); column = rw (lt-leb _ _ (c .if1 .left)) }
 
 pub x87-evaluate-spec : {M : Type 1} → statement M
 x87-evaluate-spec =

@@ -2,7 +2,8 @@ use mathlib.Core.Path.{_∙_}
 use native.Mathlib.Omega.{arith}
 use borrow.Author.Needs.{needs}
 use Rattle.listing.specs.Text.{digits}
-use Rattle.listing.proofs.Writing.{then, long, also, nothing, few, many, after-most, digits-most}
+use Rattle.listing.proofs.Writing.{then, long, also, nothing, few, many, after-most}
+use Rattle.listing.specs.Longest.{digits-most}
 use Prim.Native.Nat.{ℕ, _<_}
 use borrow.Fn.Kinds.{In}
 use borrow.Fn.PlainCycle.{Measures, is, falls, and}

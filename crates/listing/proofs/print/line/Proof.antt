@@ -1,6 +1,7 @@
 use native.Mathlib.Omega.{arith}
 use Rattle.listing.specs.Text.{line}
-use Rattle.listing.proofs.Writing.{then, after-most, numbers-most}
+use Rattle.listing.specs.Longest.{numbers-most}
+use Rattle.listing.proofs.Writing.{then, after-most}
 use borrow.Author.Needs.{needs}
 use Rattle.listing.proofs.print.line.Statement.{statement}
 use Rattle.listing.proofs.print.line.Tie as tie

@@ -1,6 +1,7 @@
 use native.Mathlib.Omega.{arith}
 use Rattle.listing.specs.Listing.{textOf}
-use Rattle.listing.proofs.Writing.{then, after-most, rows-place, state-most}
+use Rattle.listing.specs.Longest.{state-most}
+use Rattle.listing.proofs.Writing.{then, after-most, rows-place}
 use borrow.Author.Needs.{needs}
 use Rattle.listing.proofs.print.text.Statement.{statement}
 use Rattle.listing.proofs.print.text.Tie as tie

@@ -1,21 +1,20 @@
--- What the private functions work from.
+-- HOW THE CODE WORKS: what the private functions of this crate ask of each other. No public promise and no theorem rests on this file.
 use mathlib.Core.Path.{_≡_}
-use mathlib.Core.Bool.{true}
 use mathlib.Core.List.{List}
-use Prim.Native.Nat.{ℕ, _+_, _*_, _^_, _≤_, _<_}
+use Prim.Native.Nat.{ℕ, _+_, _*_, _≤_, _<_}
 use lib.ListN.{length, getD, take}
 use Rattle.sorts.specs.Lists.{rowSort, sorts}
+use Rattle.sorts.specs.Check.{checkOf}
 use Rattle.sorts.specs.Laws.{Passes}
-use Rattle.evaluator.specs.Value.{widthOf, isGiven}
-use Rattle.evaluator.specs.Lists.{pairAt, vals, flat}
+use Rattle.sorts.specs.declared.Verdict.{Verdict}
+use Rattle.sorts.specs.declared.Verdict.the-variants.{Passed}
+use Rattle.evaluator.specs.Lists.{vals, flat}
+use Rattle.evaluator.specs.Within.{AllFit, GivenFits}
 
--- each value fits its sort
-abbrev pub AllFit : List ℕ → List ℕ → Type 0
-AllFit vs ss = (i : ℕ) → getD vs i 0 < 2 ^ widthOf (getD ss i 0)
-
--- each given value that is taken fits the sort of its node
-abbrev pub GivenFits : List ℕ → List ℕ → ℕ → Type 0
-GivenFits w g n = (i : ℕ) → i < n → isGiven (getD w (4 * i) 0) ≡ true → pairAt g i < 2 ^ widthOf (rowSort w i (sorts w i))
+-- the check of n nodes, and the table that it leaves where they pass
+pub record Tabulated (w : List ℕ) (n : ℕ) (r : Verdict) (t : List ℕ) : Type 0 where
+  pub verdict : r ≡ checkOf w n
+  pub table : r ≡ Passed → take n t ≡ sorts w n
 
 -- node i, in a table whose first i + 1 entries are sorts, and a column whose first i entries are values
 pub record NodeReady (w g t col : List ℕ) (i : ℕ) : Type 0 where

@@ -1,7 +1,7 @@
-use Rattle.sorts.specs.Laws.{row-from}
+use Rattle.evaluator.proofs.Filled.{row-from}
 use borrow.Author.Needs.{needs}
-use Rattle.sorts.proofs.node_sort.Statement.{statement}
-use Rattle.sorts.proofs.node_sort.Tie as tie
+use Rattle.evaluator.proofs.table.node_sort.Statement.{statement}
+use Rattle.evaluator.proofs.table.node_sort.Tie as tie
 
 mul-j : tie.Need-mul-j
 mul-j c = search needs

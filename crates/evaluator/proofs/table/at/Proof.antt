@@ -3,8 +3,8 @@ use native.Mathlib.Omega.{arith}
 use lib.ListN.{take, List·getD-eq-default, length-take}
 use lib.Seq.{getD-take}
 use borrow.Author.Needs.{needs}
-use Rattle.sorts.proofs.at.Statement.{statement}
-use Rattle.sorts.proofs.at.Tie as tie
+use Rattle.evaluator.proofs.table.at.Statement.{statement}
+use Rattle.evaluator.proofs.table.at.Tie as tie
 
 mul-result : tie.Need-mul-result
 mul-result c = search needs
