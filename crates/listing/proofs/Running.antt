@@ -1,8 +1,8 @@
 -- One turn of a run: what stands at its place, and what the lift of it comes to.
-use mathlib.Core.Path.{_≡_, refl, sym, ap, _∙_}
+use mathlib.Core.Path.{_≡_, refl, sym, ap, subst, _∙_}
 use mathlib.Core.Bool.{Bool, true, false, cond}
 use mathlib.Core.List.{List}
-use Prim.Native.Nat.{ℕ, suc, _+_, _-_, _≤_, _<_}
+use Prim.Native.Nat.{ℕ, suc, _-_, _≤_, _<_}
 use native.Mathlib.Omega.{arith}
 use borrow.Author.Tests.{le-leb, lt-leb, leb-true, leb-false}
 use lib.Dec.{leb}
@@ -82,9 +82,10 @@ module _ (input : List ℕ) (at : ℕ) (g h : Progress) (n m n′ m′ : List �
 pub stopped-ran : (x : Ran) (input : List ℕ) (at : ℕ) (g : Progress) (n m : List ℕ) → g .on ≡ false → whole input at g n m ≡ x → Runs x (g .stop) n m
 stopped-ran x input at g n m stop e = rw (← e, stop) (record { run = refl; nodes = refl; statements = refl })
 
-pub ran : (input n m : List ℕ) (r : Stop) (n′ m′ : List ℕ) → length input ≤ 16384 → Runs (whole input 0 (goingOn fresh) n m) r n′ m′ → Runs (runOf input n m) r n′ m′
+-- a run that begins with the fresh state is the whole one
+pub ran : (input n m : List ℕ) (r : Stop) (n′ m′ : List ℕ) (s : State) (g : Progress) → s ≡ fresh → g ≡ goingOn s → length input ≤ 16384 → Runs (whole input 0 g n m) r n′ m′ → Runs (runOf input n m) r n′ m′
 unfolding runOf
-ran input n m r n′ m′ h x = rw (le-leb _ _ h) x
+ran input n m r n′ m′ s g e f h x = rw (le-leb _ _ h) (subst (λ (k : Progress). Runs (whole input 0 k n m) r n′ m′) (f ∙ ap goingOn e) x)
 
 pub too-long : (input n m : List ℕ) → 16384 < length input → Runs (runOf input n m) (record { state = fresh; number = 13; place = 0 }) n m
 unfolding runOf

@@ -39,6 +39,7 @@ fn stopped(state: State, number: u32, place: usize) -> Stop
     }
 }
 
+// A run that has stopped.
 fn halted(state: State, number: u32, place: usize) -> Progress
     ensures { λ r. ⌜ r ≡ haltedAt state number place ⌝ }
 {
@@ -52,6 +53,7 @@ fn halted(state: State, number: u32, place: usize) -> Progress
     }
 }
 
+// A run that goes on.
 fn going(state: State) -> Progress
     ensures { λ r. ⌜ r ≡ goingOn state ⌝ }
 {
@@ -65,8 +67,14 @@ fn going(state: State) -> Progress
     }
 }
 
-// Lifts what was taken at a place, where it is a record.
-fn turn<'a>(nodes: &'a mut [u64], statements: &'a mut [u64], g: Progress, t: Taken, at: usize) -> Progress
+// One turn: what was taken at a place is lifted where it is a record, and else the run stops.
+fn turn<'a>(
+    nodes: &'a mut [u64],
+    statements: &'a mut [u64],
+    g: Progress,
+    t: Taken,
+    at: usize,
+) -> Progress
     ensures { λ r. ⌜ Turned t at (g .stop .state) (now (nodes .entry)) (now (statements .entry)) r (now (nodes .exit)) (now (statements .exit)) ⌝ }
 {
     let stop = g.stop;
@@ -87,7 +95,7 @@ fn turn<'a>(nodes: &'a mut [u64], statements: &'a mut [u64], g: Progress, t: Tak
     }
 }
 
-// Takes and lifts by one reader until the run stops. The function has a reader of its own, so it is proved by hand.
+// Lifts what one reader takes, turn by turn, until the run stops: proved by hand, since the reader is a local.
 fn turns(input: &[u8], nodes: &mut [u64], statements: &mut [u64], start: Progress) -> Progress
     ensures { λ r. ⌜ Runs (goes start (now (nodes .entry)) (now (statements .entry)) (runFrom (length (now (input .entry))) (now (input .entry)) 0)) (r .stop) (now (nodes .exit)) (now (statements .exit)) ⌝ }
 {

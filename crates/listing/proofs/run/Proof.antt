@@ -1,44 +1,31 @@
 use borrow.Author.Needs.{needs}
+use Rattle.listing.proofs.Running.{ran, too-long}
 use Rattle.listing.proofs.run.Statement.{statement}
 use Rattle.listing.proofs.run.Tie as tie
-use Rattle.listing.proofs.run.Reads as reads
-use Rattle.listing.proofs.run.Lts as lts
-use Rattle.listing.proofs.going.Reads as going-reads
-use Rattle.listing.proofs.stopped.Reads as stopped-reads
-use Rattle.listing.proofs.turns.Reads as turns-reads
-use Rattle.lists.proofs.new.Reads as new-reads
 
--- src/lib.rt:108:9
 new-requires : tie.Need-new-requires
 new-requires c κs = search needs
 
--- src/lib.rt:110:9
 stopped-requires : tie.Need-stopped-requires
 stopped-requires c κs = search needs
 
--- src/lib.rt:110:9
 returns : tie.Need-returns
-returns c = ?
+returns c = rw (c .stopped .ensures, c .before .before .new .ensures) (too-long _ _ _ (c .before .if1 .taken))
 
--- src/lib.rt:112:47
 going-requires : tie.Need-going-requires
 going-requires c κs = search needs
 
--- src/lib.rt:112:9
 turns-requires : tie.Need-turns-requires
 turns-requires c κs = search needs
 
--- src/lib.rt:105:1
 same-length : tie.Need-same-length
 same-length c = search needs
 
--- src/lib.rt:105:1
 same-length-2 : tie.Need-same-length-2
 same-length-2 c = search needs
 
--- src/lib.rt:105:1
 returns-2 : tie.Need-returns-2
-returns-2 c = ?
+returns-2 c = ran _ _ _ _ _ _ _ _ (c .before .before .before .before .before .before .before .before .before .before .new .ensures) (c .before .before .before .before .before .before .going .ensures) (c .before .before .before .before .before .before .before .before .before .if1 .left) (c .before .before .before .before .before .turns .ensures)
 
 pub run-spec : {M : Type 1} → statement M
 run-spec =

@@ -14,10 +14,10 @@ use mir.Syntax.{Ty, Fn, named, erased, imm, mut, w8, w64, tyInt, tyBool, tyRef, 
 use mir.Val.{Val, WT, hasTy, vbool, vint, vptr}
 use lib.Dec.{T as Holds}
 use base.Logic.{SProp, ent, sep, ex, guard, emp, via, fst∗, snd∗, exE, exI, guardI, guardE, id⊢}
-use base.Fml.{GName, Lft, Share, Fml, ftrue, fsep, fat, froom, fdies, flft, fdead, fres, flent}
+use base.Fml.{GName, Lft, Share, Fml, ftrue, fsep, fat, froom, fdies, flft, fdead, flent}
 use prog.Memory.{Memory}
 use prog.Routine.{Routine}
-use prog.Wp.{Heap, Out, Env, afterSeq, afterBlock, afterTurn, Calls, Loops, Wp, WpFn, atReturn, Tables}
+use prog.Wp.{Heap, Out, Env, afterSeq, afterBlock, afterTurn, Wp, WpFn, atReturn, Tables}
 use ghost.Atoms.{Atoms, sem}
 use contract.BorrowLft.{meet-⊑-right}
 use contract.Monad.{Fun, fact}
@@ -38,7 +38,7 @@ use denote.Plain.{uint-makes}
 use denote.Builtin.{u8, u64, usize}
 use denote.Ref.{RefT, NamedLft, MutRef, now}
 use denote.Signature.{plain}
-use denote.Slice.{sliceTy, sliceVal, ShrSlice, MutSlice, Room, finally, slice-vals, shr-slice-tells, mut-slice-tells, shr-slice-lawful, shr-slice-copy}
+use denote.Slice.{sliceTy, sliceVal, ShrSlice, MutSlice, Room, slice-vals, shr-slice-tells, mut-slice-tells, shr-slice-lawful, shr-slice-copy}
 use denote.Steps.{only, owned, peeks, heard, nothing}
 use denote.Struct.Declared.{Declared}
 use denote.Struct.Laws as LL
@@ -217,10 +217,10 @@ module _ {M : Type 1} (𝓤 : URA M) (H : Heap 𝓤) (A : Atoms 𝓤) (W : Given
   Took p t w = (t ≡ takenAt (now s) p) × (w .input ≡ s) × (w .at ≡ placeOf (t .outcome))
 
   -- the call of `turn`, with both lists lent for the new lifetime ν, at what was taken, whose machine value is u
-  abbrev Given-turn : Type 0
-  Given-turn = RefT (List ℕ) × (RefT (List ℕ) × (Progress × (Taken × (ℕ × Unit {0}))))
+  abbrev Passed-turn : Type 0
+  Passed-turn = RefT (List ℕ) × (RefT (List ℕ) × (Progress × (Taken × (ℕ × Unit {0}))))
 
-  abbrev to-turn : ℕ → Given-turn → Val → Turn 𝓤 H A at-mem run .Ghost
+  abbrev to-turn : ℕ → Passed-turn → Val → Turn 𝓤 H A at-mem run .Ghost
   to-turn ν x u = (((ν ∷ [], tt), (fullShare, tt), tt, x, (v₁ ∷ [], (v₂ ∷ [], (low (x .1 .1 .0) ∷ [], (u ∷ [], (vint w64 (x .1 .1 .1 .1 .0) ∷ [], tt)))))), tt)
 
   goes-turn : (ν : ℕ) (δ₁ δ₂ : GName) (h : Here) (t : Taken) (u : Val) → Known (h .g) → Is S.the-row t (u ∷ []) → Is usize (h .at) (vint w64 (h .at) ∷ [])
@@ -241,15 +241,27 @@ module _ {M : Type 1} (𝓤 : URA M) (H : Heap 𝓤) (A : Atoms 𝓤) (W : Given
       nothing ! $ owned ! P.the-row (Is P.the-row) (LL.makes P.the-type P′.the-plain 𝓤 H A) g₀ _ is-g₀ $ fjoin ! $ move ! (2 ∷ 0 ∷ []) $ fjoin ! $ move ! (1 ∷ 0 ∷ []) $ fjoin ! $ move ! (1 ∷ 0 ∷ []) $ fjoin ! $ frame ! $
       owned ! P.the-row (Is P.the-row) (LL.makes P.the-type P′.the-plain 𝓤 H A) (h .g) _ is-g $ done !
 
-  -- each local's type
-  abbrev slice : Ty → Ty
-  slice τ = sliceTy τ
-
+  -- the types of the locals
   abbrev word : Ty
   word = tyInt w64
 
-  abbrev wordRef : Ty
-  wordRef = tyRef erased mut word
+  abbrev word-ref : Ty
+  word-ref = tyRef erased mut word
+
+  abbrev lent-list : Ty
+  lent-list = sliceTy word-ref
+
+  abbrev reader-ref : Ty
+  reader-ref = tyRef erased mut (pointee (T.the-row αᵉ .written))
+
+  abbrev bytes : Ty
+  bytes = sliceTy (tyRef (named 0) imm (tyInt w8))
+
+  abbrev list₁ : Ty
+  list₁ = sliceTy (tyRef (named 1) mut word)
+
+  abbrev list₂ : Ty
+  list₂ = sliceTy (tyRef (named 2) mut word)
 
   module _ (𝓣 : Tables 𝓤 H) (known-new : Triple 𝓤 (𝓣 .C #reader·new) (New 𝓤 H A at-mem run)) (known-take : Triple 𝓤 (𝓣 .C #reader·take) (Take 𝓤 H A at-mem run)) (known-turn : Triple 𝓤 (𝓣 .C #listing·turn) (Turn 𝓤 H A at-mem run))
       (is : Is (ShrSlice (named 0) κ u8) s (v ∷ [])) (room₁ : Room u64 (length n₀)) (room₂ : Room u64 (length m₀)) (is-g₀ : Known g₀) where
@@ -258,20 +270,20 @@ module _ {M : Type 1} (𝓤 : URA M) (H : Heap 𝓤) (A : Atoms 𝓤) (W : Given
 
     module _ (l₀ l₁ l₂ l₃ l₄ l₅ l₆ l₇ l₈ l₉ l₁₀ l₁₁ l₁₂ l₁₃ l₁₄ l₁₅ : ℕ) where
       abbrev En : Env 𝓤 H
-      En = (P′.mir, l₀) ∷ (sliceTy (tyRef (named 0) imm (tyInt w8)), l₁) ∷ (sliceTy (tyRef (named 1) mut word), l₂) ∷ (sliceTy (tyRef (named 2) mut word), l₃) ∷ (P′.mir, l₄) ∷ (T′.mir erased, l₅) ∷ (P′.mir, l₆) ∷ (word, l₇)
-          ∷ (S′.mir, l₈) ∷ (T′.mir erased, l₉) ∷ (tyBool, l₁₀) ∷ (tyRef erased mut (pointee (T.the-row αᵉ .written)), l₁₁) ∷ (wordRef, l₁₂) ∷ (sliceTy wordRef, l₁₃) ∷ (wordRef, l₁₄) ∷ (sliceTy wordRef, l₁₅) ∷ []
+      En = (P′.mir, l₀) ∷ (bytes, l₁) ∷ (list₁, l₂) ∷ (list₂, l₃) ∷ (P′.mir, l₄) ∷ (T′.mir erased, l₅) ∷ (P′.mir, l₆) ∷ (word, l₇)
+          ∷ (S′.mir, l₈) ∷ (T′.mir erased, l₉) ∷ (tyBool, l₁₀) ∷ (reader-ref, l₁₁) ∷ (word-ref, l₁₂) ∷ (lent-list, l₁₃) ∷ (word-ref, l₁₄) ∷ (lent-list, l₁₅) ∷ []
+
+      -- the locals, of which a turn finds the parameters but one as room, and the reader and what the run has come to in place
+      abbrev Locals : Item 𝓤 → Item 𝓤 → Item 𝓤 → Item 𝓤 → List (Item 𝓤) → List (Item 𝓤)
+      Locals i₆ i₅ i₄ i₁ others = ‵ (froom lent-list l₁₅ 0) ∷ ‵ (fdies lent-list l₁₅) ∷ ‵ (froom word-ref l₁₄ 0) ∷ ‵ (fdies word-ref l₁₄) ∷ ‵ (froom lent-list l₁₃ 0) ∷ ‵ (fdies lent-list l₁₃) ∷ ‵ (froom word-ref l₁₂ 0) ∷ ‵ (fdies word-ref l₁₂)
+          ∷ ‵ (froom reader-ref l₁₁ 0) ∷ ‵ (fdies reader-ref l₁₁) ∷ ‵ (froom tyBool l₁₀ 0) ∷ ‵ (fdies tyBool l₁₀) ∷ ‵ (froom (T′.mir erased) l₉ 0) ∷ ‵ (fdies (T′.mir erased) l₉) ∷ ‵ (froom S′.mir l₈ 0) ∷ ‵ (fdies S′.mir l₈)
+          ∷ ‵ (froom word l₇ 0) ∷ ‵ (fdies word l₇) ∷ i₆ ∷ ‵ (fdies P′.mir l₆) ∷ i₅ ∷ ‵ (fdies (T′.mir erased) l₅) ∷ i₄ ∷ ‵ (fdies P′.mir l₄)
+          ∷ ‵ (fat fullShare list₂ l₃ 0 v₂) ∷ ‵ (fdies list₂ l₃) ∷ ‵ (fat fullShare list₁ l₂ 0 v₁) ∷ ‵ (fdies list₁ l₂) ∷ i₁ ∷ ‵ (fdies bytes l₁) ∷ ‵ (froom P′.mir l₀ 0) ∷ ‵ (fdies P′.mir l₀) ∷ others
 
       -- what the loop has at a turn
       abbrev At : Here → List (Item 𝓤)
       At h = ‵ (R .own (on (h .at)) (T′.lowered (on (h .at)) ∷ [])) ∷ ‵ (flft κ q) ∷ ‵ (own₁ (h .nodes)) ∷ ‵ (flft κ₁ q₁) ∷ ‵ (own₂ (h .statements)) ∷ ‵ (flft κ₂ q₂) ∷ ‵ Own
-          ∷ ‵ (froom (sliceTy wordRef) l₁₅ 0) ∷ ‵ (fdies (sliceTy wordRef) l₁₅) ∷ ‵ (froom wordRef l₁₄ 0) ∷ ‵ (fdies wordRef l₁₄)
-          ∷ ‵ (froom (sliceTy wordRef) l₁₃ 0) ∷ ‵ (fdies (sliceTy wordRef) l₁₃) ∷ ‵ (froom wordRef l₁₂ 0) ∷ ‵ (fdies wordRef l₁₂)
-          ∷ ‵ (froom (tyRef erased mut (pointee (T.the-row αᵉ .written))) l₁₁ 0) ∷ ‵ (fdies (tyRef erased mut (pointee (T.the-row αᵉ .written))) l₁₁)
-          ∷ ‵ (froom tyBool l₁₀ 0) ∷ ‵ (fdies tyBool l₁₀) ∷ ‵ (froom (T′.mir erased) l₉ 0) ∷ ‵ (fdies (T′.mir erased) l₉) ∷ ‵ (froom S′.mir l₈ 0) ∷ ‵ (fdies S′.mir l₈) ∷ ‵ (froom word l₇ 0) ∷ ‵ (fdies word l₇)
-          ∷ ‵ (fat fullShare P′.mir l₆ 0 (low (h .g))) ∷ ‵ (fdies P′.mir l₆) ∷ ‵ (fat fullShare (T′.mir erased) l₅ 0 (T′.lowered (on (h .at)))) ∷ ‵ (fdies (T′.mir erased) l₅)
-          ∷ ‵ (froom P′.mir l₄ 0) ∷ ‵ (fdies P′.mir l₄) ∷ ‵ (fat fullShare (sliceTy (tyRef (named 2) mut word)) l₃ 0 v₂) ∷ ‵ (fdies (sliceTy (tyRef (named 2) mut word)) l₃)
-          ∷ ‵ (fat fullShare (sliceTy (tyRef (named 1) mut word)) l₂ 0 v₁) ∷ ‵ (fdies (sliceTy (tyRef (named 1) mut word)) l₂)
-          ∷ ‵ (froom (sliceTy (tyRef (named 0) imm (tyInt w8))) l₁ 0) ∷ ‵ (fdies (sliceTy (tyRef (named 0) imm (tyInt w8))) l₁) ∷ ‵ (froom P′.mir l₀ 0) ∷ ‵ (fdies P′.mir l₀) ∷ []
+          ∷ Locals (‵ (fat fullShare P′.mir l₆ 0 (low (h .g)))) (‵ (fat fullShare (T′.mir erased) l₅ 0 (T′.lowered (on (h .at))))) (‵ (froom P′.mir l₄ 0)) (‵ (froom bytes l₁ 0)) []
 
       abbrev Facts : ℕ → Here → Type 0
       Facts t h = (ahead (now s) (h .at) (h .g) ≡ t) × All (h .g) (h .at) (h .nodes) (h .statements) × (length (h .nodes) ≡ length n₀) × (length (h .statements) ≡ length m₀) × Known (h .g)
@@ -397,14 +409,7 @@ module _ {M : Type 1} (𝓤 : URA M) (H : Heap 𝓤) (A : Atoms 𝓤) (W : Given
 
       -- the MIR up to the loop: `new` makes the reader
       abbrev Start : List (Item 𝓤)
-      Start = ‵ (froom (sliceTy wordRef) l₁₅ 0) ∷ ‵ (fdies (sliceTy wordRef) l₁₅) ∷ ‵ (froom wordRef l₁₄ 0) ∷ ‵ (fdies wordRef l₁₄)
-          ∷ ‵ (froom (sliceTy wordRef) l₁₃ 0) ∷ ‵ (fdies (sliceTy wordRef) l₁₃) ∷ ‵ (froom wordRef l₁₂ 0) ∷ ‵ (fdies wordRef l₁₂)
-          ∷ ‵ (froom (tyRef erased mut (pointee (T.the-row αᵉ .written))) l₁₁ 0) ∷ ‵ (fdies (tyRef erased mut (pointee (T.the-row αᵉ .written))) l₁₁) ∷ ‵ (froom tyBool l₁₀ 0) ∷ ‵ (fdies tyBool l₁₀)
-          ∷ ‵ (froom (T′.mir erased) l₉ 0) ∷ ‵ (fdies (T′.mir erased) l₉) ∷ ‵ (froom S′.mir l₈ 0) ∷ ‵ (fdies S′.mir l₈)
-          ∷ ‵ (froom word l₇ 0) ∷ ‵ (fdies word l₇) ∷ ‵ (froom P′.mir l₆ 0) ∷ ‵ (fdies P′.mir l₆)
-          ∷ ‵ (froom (T′.mir erased) l₅ 0) ∷ ‵ (fdies (T′.mir erased) l₅) ∷ ‵ (fat fullShare P′.mir l₄ 0 (low g₀)) ∷ ‵ (fdies P′.mir l₄)
-          ∷ ‵ (fat fullShare (sliceTy (tyRef (named 2) mut word)) l₃ 0 v₂) ∷ ‵ (fdies (sliceTy (tyRef (named 2) mut word)) l₃) ∷ ‵ (fat fullShare (sliceTy (tyRef (named 1) mut word)) l₂ 0 v₁) ∷ ‵ (fdies (sliceTy (tyRef (named 1) mut word)) l₂)
-          ∷ ‵ (fat fullShare (sliceTy (tyRef (named 0) imm (tyInt w8))) l₁ 0 v) ∷ ‵ (fdies (sliceTy (tyRef (named 0) imm (tyInt w8))) l₁) ∷ ‵ (froom P′.mir l₀ 0) ∷ ‵ (fdies P′.mir l₀) ∷ raw (onEntry 𝓤 H A turns.signature (κ, (κ₁, (κ₂, tt))) (q, (q₁, (q₂, tt))) a passed) ∷ []
+      Start = Locals (‵ (froom P′.mir l₆ 0)) (‵ (froom (T′.mir erased) l₅ 0)) (‵ (fat fullShare P′.mir l₄ 0 (low g₀))) (‵ (fat fullShare bytes l₁ 0 v)) (raw (onEntry 𝓤 H A turns.signature (κ, (κ₁, (κ₂, tt))) (q, (q₁, (q₂, tt))) a passed) ∷ [])
 
       begins : ent 𝓤 (⋆ 𝓤 H A Start) (Wp 𝓤 H (𝓣 .C) (𝓣 .Λ) En code-mir.t-1 (atReturn 𝓤 H En Post))
       begins =
@@ -427,7 +432,7 @@ module _ {M : Type 1} (𝓤 : URA M) (H : Heap 𝓤) (A : Atoms 𝓤) (W : Given
 
     -- the function, with each local's type by its name
     abbrev function : Fn
-    function = record { lifetimes = 3; outlives = []; params = 4; locals = local P′.mir valueLocal ∷ local (sliceTy (tyRef (named 0) imm (tyInt w8))) valueLocal ∷ local (sliceTy (tyRef (named 1) mut word)) valueLocal ∷ local (sliceTy (tyRef (named 2) mut word)) valueLocal ∷ local P′.mir valueLocal ∷ local (T′.mir erased) memorySlot ∷ local P′.mir valueLocal ∷ local word valueLocal ∷ local S′.mir valueLocal ∷ local (T′.mir erased) valueLocal ∷ local tyBool valueLocal ∷ local (tyRef erased mut (pointee (T.the-row αᵉ .written))) valueLocal ∷ local wordRef valueLocal ∷ local (sliceTy wordRef) valueLocal ∷ local wordRef valueLocal ∷ local (sliceTy wordRef) valueLocal ∷ []; body = code-mir.t-1 }
+    function = record { lifetimes = 3; outlives = []; params = 4; locals = local P′.mir valueLocal ∷ local bytes valueLocal ∷ local list₁ valueLocal ∷ local list₂ valueLocal ∷ local P′.mir valueLocal ∷ local (T′.mir erased) memorySlot ∷ local P′.mir valueLocal ∷ local word valueLocal ∷ local S′.mir valueLocal ∷ local (T′.mir erased) valueLocal ∷ local tyBool valueLocal ∷ local reader-ref valueLocal ∷ local word-ref valueLocal ∷ local lent-list valueLocal ∷ local word-ref valueLocal ∷ local lent-list valueLocal ∷ []; body = code-mir.t-1 }
 
     spelled : code.function ≡ function
     spelled = refl
