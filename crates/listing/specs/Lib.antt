@@ -1,4 +1,5 @@
 pub mod Run
+pub mod Turn
 pub mod Text
 pub mod Listing
 pub mod Enough
