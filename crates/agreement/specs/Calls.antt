@@ -24,9 +24,9 @@ use Rattle.records.specs.Numbers.{refusalOf}
 use Rattle.records.specs.declared.Outcome.{Outcome}
 use Rattle.records.specs.declared.Outcome.the-variants.{Record, End, Refused}
 use Rattle.lifter.specs.Lift.{liftOf}
-use Rattle.export.specs.Flat.{insnOf, laid}
+use Rattle.export.specs.Flat.{insnOf, atLeast}
 use Rattle.export.specs.Lifts.{smallIs, low32, stateIn, stateWords, Lifted, keptIf, done, liftedIn, liftedOf, unchanged}
-use Rattle.export.specs.Steps.{steppedOf, stepOf, spacious}
+use Rattle.export.specs.Steps.{steppedOf, stepOf}
 use Rattle.agreement.specs.Runs.{Held, begun, answered, stepped, called, ran, ran-on}
 use Rattle.agreement.specs.Refused.{refused}
 use Rattle.agreement.specs.Fine.{Placed}
@@ -51,7 +51,8 @@ pub record Words : Type 0 where
 -- What a call answers and leaves, as it promises
 unfoldable pub promised : Words → Call → Lifted
 promised w (Lift flat) = liftedOf flat (w .state) (w .nodes) (w .statements)
-promised w (LiftRecord input at out) = steppedOf (takenAt input at) at (w .state) (w .nodes) (w .statements) out .lifted
+promised w (LiftRecord input at out) =
+    cond (atLeast 2 out) (steppedOf (takenAt input at) at (w .state) (w .nodes) (w .statements) .lifted) (unchanged 10 (w .state) (w .nodes) (w .statements))
 
 unfoldable pub made : Words → Call → Words
 made w c = let x = promised w c in record { state = x .state; nodes = x .nodes; statements = x .statements }
@@ -68,8 +69,8 @@ recorded (End c) i = []
 recorded (Refused r p) i = []
 
 unfoldable pub handed : Call → List Instruction
-handed (Lift flat) = cond (eqb (length flat) 177) (insnOf flat ∷ []) []
-handed (LiftRecord input at out) = cond (leb 2 (length out)) (recorded (takenAt input at .outcome) (takenAt input at .insn)) []
+handed (Lift flat) = cond (atLeast 177 flat) (insnOf flat ∷ []) []
+handed (LiftRecord input at out) = cond (atLeast 2 out) (recorded (takenAt input at .outcome) (takenAt input at .insn)) []
 
 unfoldable pub allHanded : List Call → List Instruction
 allHanded [] = []
@@ -129,24 +130,27 @@ module _ (nodes statements : List ℕ) where
   nothing-on w is r k = rw append-nil (same-holds r k)
 
   call-on : (w : Words) (is : List Instruction) (c : Call) → Holds w (run is) → Holds (made w c) (run (is ++ handed c))
-  unfolding made promised handed liftedOf steppedOf stepOf spacious
-  call-on w is (Lift flat) k = rw (le-leb 13 (length (w .state)) (k .long)) (way (eqb (length flat) 177))
+  unfolding made promised handed liftedOf steppedOf stepOf
+  call-on w is (Lift flat) k = way (atLeast 177 flat) (atLeast 13 (w .state)) (le-leb 13 (length (w .state)) (k .long))
     where
-      way : (t : Bool) → Holds (wordsOf (cond (t && true) (liftedIn (insnOf flat) (w .state) (w .nodes) (w .statements)) (unchanged 10 (w .state) (w .nodes) (w .statements)))) (run (is ++ cond t (insnOf flat ∷ []) []))
-      way true = lifted-on w is (insnOf flat) k
-      way false = nothing-on w is 10 k
-  call-on w is (LiftRecord input at out) k = way (leb 13 (length (w .state))) (leb 2 (length out)) (takenAt input at .outcome) (le-leb 13 (length (w .state)) (k .long))
+      way : (t x : Bool) → x ≡ true
+          → Holds (wordsOf (cond (t && x) (liftedIn (insnOf flat) (w .state) (w .nodes) (w .statements)) (unchanged 10 (w .state) (w .nodes) (w .statements)))) (run (is ++ cond t (insnOf flat ∷ []) []))
+      way true true e = lifted-on w is (insnOf flat) k
+      way true false e = absurd (false≢true e)
+      way false x e = nothing-on w is 10 k
+  call-on w is (LiftRecord input at out) k = way (atLeast 2 out) (atLeast 13 (w .state)) (takenAt input at .outcome) (le-leb 13 (length (w .state)) (k .long))
     where
       i : Instruction
       i = takenAt input at .insn
 
-      way : (x t : Bool) (o : Outcome) → x ≡ true
-          → Holds (wordsOf (cond (x && t) (stepOf o i at (w .state) (w .nodes) (w .statements)) (record { lifted = unchanged 10 (w .state) (w .nodes) (w .statements); told = [] }) .lifted)) (run (is ++ cond t (recorded o i) []))
+      way : (t x : Bool) (o : Outcome) → x ≡ true
+          → Holds (wordsOf (cond t (cond x (stepOf o i at (w .state) (w .nodes) (w .statements)) (record { lifted = unchanged 10 (w .state) (w .nodes) (w .statements); told = 0 ∷ 0 ∷ [] }) .lifted) (unchanged 10 (w .state) (w .nodes) (w .statements))))
+          (run (is ++ cond t (recorded o i) []))
       way true true (Record c) e = lifted-on w is i k
       way true true (End c) e = nothing-on w is 0 k
       way true true (Refused r p) e = nothing-on w is (refusalOf r) k
-      way true false o e = nothing-on w is 10 k
-      way false t o e = absurd (false≢true e)
+      way true false o e = absurd (false≢true e)
+      way false x o e = nothing-on w is 10 k
 
   calls-on : (w : Words) (is : List Instruction) (cs : List Call) → Holds w (run is) → Holds (makes w cs) (run (is ++ allHanded cs))
   unfolding makes allHanded

@@ -21,7 +21,7 @@ use Rattle.lifter.specs.Lift.{liftOf}
 use Rattle.listing.specs.Run.{Ran, ended, after, lifted, runFrom, runOf}
 use Rattle.listing.specs.Listing.{textOf}
 use Rattle.listing.specs.Longest.{longest}
-use Rattle.evaluator.specs.Ready.{GivenFits}
+use Rattle.evaluator.specs.Within.{GivenFits}
 use Rattle.agreement.specs.Runs.{Held, begun, stepped, called, answered, declines, ran, ran-append}
 use Rattle.agreement.specs.Refused.{refused}
 use Rattle.agreement.specs.Evaluated.{Evaluated, sound-evaluated}
