@@ -135,7 +135,7 @@ module _ {M : Type 1} (𝓤 : URA M) (H : Heap 𝓤) (A : Atoms 𝓤) (W : Given
   abbrev Post : Val → SProp 𝓤
   Post = walkOf 𝓤 H A turns.ended stayed (turns.clauses 𝓤 H A at-mem run) .post (((κ, (κ₁, (κ₂, tt))), (q, (q₁, (q₂, tt))), tt, a, passed), tt)
 
-  -- what the run comes to
+  -- from here the run comes to what it comes to from the start
   abbrev All : Progress → ℕ → List ℕ → List ℕ → Type 0
   All g p ns ms = whole (now s) p g ns ms ≡ whole (now s) 0 g₀ n₀ m₀
 
@@ -165,6 +165,7 @@ module _ {M : Type 1} (𝓤 : URA M) (H : Heap 𝓤) (A : Atoms 𝓤) (W : Given
   abbrev on : ℕ → Reader
   on p = record { input = s; at = p }
 
+  -- what whoever holds it knows of it
   abbrev Known : Progress → Type 0
   Known g = Is P.the-row g (low g ∷ [])
 
@@ -217,15 +218,18 @@ module _ {M : Type 1} (𝓤 : URA M) (H : Heap 𝓤) (A : Atoms 𝓤) (W : Given
   Took p t w = (t ≡ takenAt (now s) p) × (w .input ≡ s) × (w .at ≡ placeOf (t .outcome))
 
   -- the call of `turn`, with both lists lent for the new lifetime ν, at what was taken, whose machine value is u
-  abbrev Passed-turn : Type 0
-  Passed-turn = RefT (List ℕ) × (RefT (List ℕ) × (Progress × (Taken × (ℕ × Unit {0}))))
+  abbrev Passed : Type 0
+  Passed = RefT (List ℕ) × (RefT (List ℕ) × (Progress × (Taken × (ℕ × Unit {0}))))
 
-  abbrev to-turn : ℕ → Passed-turn → Val → Turn 𝓤 H A at-mem run .Ghost
+  abbrev passing : GName → GName → Here → Taken → Passed
+  passing δ₁ δ₂ h t = (x₁ δ₁ (h .nodes), (x₂ δ₂ (h .statements), (h .g, (t, (h .at, tt)))))
+
+  abbrev to-turn : ℕ → Passed → Val → Turn 𝓤 H A at-mem run .Ghost
   to-turn ν x u = (((ν ∷ [], tt), (fullShare, tt), tt, x, (v₁ ∷ [], (v₂ ∷ [], (low (x .1 .1 .0) ∷ [], (u ∷ [], (vint w64 (x .1 .1 .1 .1 .0) ∷ [], tt)))))), tt)
 
   goes-turn : (ν : ℕ) (δ₁ δ₂ : GName) (h : Here) (t : Taken) (u : Val) → Known (h .g) → Is S.the-row t (u ∷ []) → Is usize (h .at) (vint w64 (h .at) ∷ [])
       → ent 𝓤 (⋆ 𝓤 H A (‵ (flft (ν ∷ []) fullShare) ∷ ‵ (MutSlice (named 0) (ν ∷ []) u64 .own (x₁ δ₁ (h .nodes)) (v₁ ∷ [])) ∷ ‵ (MutSlice (named 0) (ν ∷ []) u64 .own (x₂ δ₂ (h .statements)) (v₂ ∷ [])) ∷ []))
-      (Turn 𝓤 H A at-mem run .pre (to-turn ν (x₁ δ₁ (h .nodes), (x₂ δ₂ (h .statements), (h .g, (t, (h .at, tt))))) u))
+      (Turn 𝓤 H A at-mem run .pre (to-turn ν (passing δ₁ δ₂ h t) u))
   goes-turn ν δ₁ δ₂ h t u is-g is-t is-at =
       qed W (‵ (flft (ν ∷ []) fullShare) ∷ ‵ (MutSlice (named 0) (ν ∷ []) u64 .own (x₁ δ₁ (h .nodes)) (v₁ ∷ [])) ∷ ‵ (MutSlice (named 0) (ν ∷ []) u64 .own (x₂ δ₂ (h .statements)) (v₂ ∷ [])) ∷ []) ∵
       nothing ! $ owned ! usize (Is usize) (uint-makes 𝓤 H A W w64) (h .at) _ is-at $ fjoin ! $ owned ! S.the-row (Is S.the-row) (LL.makes S.the-type S′.the-plain 𝓤 H A) t _ is-t $ fjoin ! $
@@ -365,11 +369,11 @@ module _ {M : Type 1} (𝓤 : URA M) (H : Heap 𝓤) (A : Atoms 𝓤) (W : Given
           use2 W (later (some (λ (δ₁ : GName). ‵ (MutSlice (named 0) (μ ∷ []) u64 .own (x₁ δ₁ (h .nodes)) (v₁ ∷ [])) ⊛ ‵ (LentAgain u64 κ₁ (μ ∷ []) q₁ γ₁ b₁ o₁ δ₁ (h .nodes))))) (lends-again u64 κ₁ (μ ∷ []) q₁ γ₁ b₁ o₁ 𝓤 H A W (named 1) (named 0) (h .nodes) (length n₀) long₁) $ await ! tt $ pick ! (λ δ₁. split ! $ move ! (6 ∷ 7 ∷ []) $
           use2 W (later (some (λ (δ₂ : GName). ‵ (MutSlice (named 0) (μ ∷ []) u64 .own (x₂ δ₂ (h .statements)) (v₂ ∷ [])) ⊛ ‵ (LentAgain u64 κ₂ (μ ∷ []) q₂ γ₂ b₂ o₂ δ₂ (h .statements))))) (lends-again u64 κ₂ (μ ∷ []) q₂ γ₂ b₂ o₂ 𝓤 H A W (named 2) (named 0) (h .statements) (length m₀) long₂) $ await ! tt $ pick ! (λ δ₂. split ! $
           -- [statements, lent; what is kept of it; nodes, lent; what is kept of it; their token; what the reader owns; _5; its token; what s owns; _15; …]
-          move ! (4 ∷ 2 ∷ 0 ∷ []) $ use3 W (raw (Turn 𝓤 H A at-mem run .pre (to-turn μ (x₁ δ₁ (h .nodes), (x₂ δ₂ (h .statements), (h .g, (t, (h .at, tt))))) u))) (goes-turn μ δ₁ δ₂ h t u is-g is-t (refl, LL.lawful D L 𝓤 H A W .typed (on (h .at)) _ was .0 .1 .1 .0 .fits)) $
-          calls-at-last ! fm (Turn 𝓤 H A at-mem run) known-turn (to-turn μ (x₁ δ₁ (h .nodes), (x₂ δ₂ (h .statements), (h .g, (t, (h .at, tt))))) u)
+          move ! (4 ∷ 2 ∷ 0 ∷ []) $ use3 W (raw (Turn 𝓤 H A at-mem run .pre (to-turn μ (passing δ₁ δ₂ h t) u))) (goes-turn μ δ₁ δ₂ h t u is-g is-t (refl, LL.lawful D L 𝓤 H A W .typed (on (h .at)) _ was .0 .1 .1 .0 .fits)) $
+          calls-at-last ! fm (Turn 𝓤 H A at-mem run) known-turn (to-turn μ (passing δ₁ δ₂ h t) u)
           (and-then ! (load ! (from ! (stop !)) (look ! 11 refl)) (and-then ! (load ! (from ! (stop !)) (look ! 7 refl)) (and-then ! (load ! (from ! (stop !)) (look ! 25 refl)) (and-then ! (load ! (from ! (stop !)) (look ! 21 refl)) (and-then ! (load ! (from ! (stop !)) (look ! 23 refl)) (no-more !)))))) (λ w.
-          use1 W (later (some (λ (g : Progress). ((‵ (flft (μ ∷ []) fullShare) ⊛ ‵ ftrue) ⊛ ‵ (P.the-row .own g (w ∷ []))) ⊛ raw (ensured 𝓤 H A turn.ended (turn.clauses 𝓤 H A at-mem run) (μ ∷ [], tt) (x₁ δ₁ (h .nodes), (x₂ δ₂ (h .statements), (h .g, (t, (h .at, tt))))) tt g)))) (id⊢ 𝓤 _) $ await ! tt $ pick ! (λ g.
-          split ! $ move ! (1 ∷ []) $ use1 W (some (λ (zs : List ℕ × (List ℕ × (Unit {0} × (Unit {0} × (Unit {0} × Unit {0}))))). ‵ (lasts turn.ended (μ ∷ [], tt) (x₁ δ₁ (h .nodes), (x₂ δ₂ (h .statements), (h .g, (t, (h .at, tt))))) zs) ⊛ raw (fact 𝓤 (Turned t (h .at) (h .g .stop .state) (h .nodes) (h .statements) g (zs .0) (zs .1 .0))))) (id⊢ 𝓤 _) $ pick ! (λ zs.
+          use1 W (later (some (λ (g : Progress). ((‵ (flft (μ ∷ []) fullShare) ⊛ ‵ ftrue) ⊛ ‵ (P.the-row .own g (w ∷ []))) ⊛ raw (ensured 𝓤 H A turn.ended (turn.clauses 𝓤 H A at-mem run) (μ ∷ [], tt) (passing δ₁ δ₂ h t) tt g)))) (id⊢ 𝓤 _) $ await ! tt $ pick ! (λ g.
+          split ! $ move ! (1 ∷ []) $ use1 W (some (λ (zs : List ℕ × (List ℕ × (Unit {0} × (Unit {0} × (Unit {0} × Unit {0}))))). ‵ (lasts turn.ended (μ ∷ [], tt) (passing δ₁ δ₂ h t) zs) ⊛ raw (fact 𝓤 (Turned t (h .at) (h .g .stop .state) (h .nodes) (h .statements) g (zs .0) (zs .1 .0))))) (id⊢ 𝓤 _) $ pick ! (λ zs.
           split ! $ move ! (1 ∷ []) $ heard ! (Turned t (h .at) (h .g .stop .state) (h .nodes) (h .statements) g (zs .0) (zs .1 .0)) (λ d.
           fsplit ! $ fsplit ! $ move ! (1 ∷ []) $ feqL ! (λ same₁. move ! (1 ∷ []) $ fsplit ! $ fsplit ! $ move ! (1 ∷ []) $ feqL ! (λ same₂. move ! (1 ∷ []) $ drop ! $
           -- [the last statements; the last nodes; the token and the result; what is kept of statements; of nodes; what the reader owns; _5; its token; what s owns; _15; …]
