@@ -18,7 +18,7 @@ use Rattle.lifter.proofs.Adds.{lowered-adds}
 use Rattle.agreement.specs.Runs.{Held}
 use Rattle.agreement.specs.Fine.Valid.{is-valid, place-inside}
 use Rattle.agreement.specs.InWords.{InWords, laid}
-use Rattle.agreement.specs.Written.{room-words, loweredAt, by-lift}
+use Rattle.agreement.specs.Added.{room-words, loweredAt, by-lift}
 
 -- What the lift gives is the step of its form; the nodes before it stay, and its own stand in the list
 pub record Applied (s : State) (i : Instruction) (nodes : List ℕ) (form : Form) (b : Built) : Type 0 where

@@ -35,7 +35,7 @@ use Rattle.agreement.specs.Tracks.{Tracks}
 use Rattle.agreement.specs.Tracks.Sorts.{run-tracked}
 use Rattle.agreement.specs.Sorted.{Sound, sorted}
 pub mod Kept
-use Kept.{Small, tracked-small, state-back, words-small, words-long, zero-state, zero-small, zero-long}
+use Kept.{Narrow, tracked-narrow, state-back, words-small, words-long, zero-state, zero-small, zero-long}
 
 -- A call: `x87_lift` on some bytes, or `x87_lift_record` on an input, at a place, with some words lent for what it tells
 pub data Call : Type 0 where
@@ -90,7 +90,7 @@ abbrev wordsOf : Lifted → Words
 wordsOf x = record { state = x .state; nodes = x .nodes; statements = x .statements }
 
 -- One lift: its state is written, or where it is refused all is as it was
-module _ (w : Words) (i : Instruction) (e : all smallIs (take 13 (w .state)) ≡ true) (l : 13 ≤ length (w .state)) (b : Small (called (inHand w) i .st)) where
+module _ (w : Words) (i : Instruction) (e : all smallIs (take 13 (w .state)) ≡ true) (l : 13 ≤ length (w .state)) (b : Narrow (called (inHand w) i .st)) where
   lift-holds : Holds (wordsOf (liftedIn i (w .state) (w .nodes) (w .statements))) (called (inHand w) i)
   unfolding liftedIn called stepped
   lift-holds = rw e (way (leb (answered (inHand w) i) 2) refl)
@@ -123,7 +123,7 @@ module _ (nodes statements : List ℕ) where
   lifted-on : (w : Words) (is : List Instruction) (i : Instruction) → Holds w (run is) → Holds (wordsOf (liftedIn i (w .state) (w .nodes) (w .statements))) (run (is ++ (i ∷ [])))
   lifted-on w is i k =
       let c : called (inHand w) i ≡ run (is ++ (i ∷ [])) = ap (λ (h : Held). called h i) (k .held) ∙ sym (ran-on (begun nodes statements) is i) in
-      let b : Small (called (inHand w) i .st) = rw c (tracked-small (run-tracked nodes statements (is ++ (i ∷ [])) .tracks)) in
+      let b : Narrow (called (inHand w) i .st) = rw c (tracked-narrow (run-tracked nodes statements (is ++ (i ∷ [])) .tracks)) in
       subst (Holds (wordsOf (liftedIn i (w .state) (w .nodes) (w .statements)))) c (lift-holds w i (k .small) (k .long) b)
 
   nothing-on : (w : Words) (is : List Instruction) (r : ℕ) → Holds w (run is) → Holds (wordsOf (unchanged r (w .state) (w .nodes) (w .statements))) (run (is ++ []))

@@ -18,7 +18,7 @@ use Rattle.agreement.specs.Operands.{Each}
 use Rattle.agreement.specs.Laid.{Lies}
 use Rattle.agreement.specs.Makes.{Once, Makes}
 use Rattle.agreement.specs.Makes.Lowered.{lowered-makes}
-use Rattle.agreement.specs.Written.{Written, by-call}
+use Rattle.agreement.specs.Added.{Added, by-call}
 pub mod Numbers
 use Numbers.{numbered, below, once-up, once-from, rows-count, numbered-same, each-node, each-below}
 

@@ -36,8 +36,8 @@ use Rattle.agreement.specs.Operands.{Each, operandsAt, operandsOf}
 use Rattle.agreement.specs.Fits.{firstOf}
 use Rattle.agreement.specs.Laid.{over, each-row}
 use Rattle.agreement.specs.Makes.{coveredNode, coveredStatement}
-use Rattle.agreement.specs.Makes.Lowered.{saidOf, lowered-makes}
-use Rattle.agreement.specs.Written.{loweredAt, by-call}
+use Rattle.agreement.specs.Makes.Lowered.{effectSaid, lowered-makes}
+use Rattle.agreement.specs.Added.{loweredAt, by-call}
 
 -- From h to d every place that was there names the node that it named, and each place below them an input that was added
 pub record KeepsStack (h d : Held) : Type 0 where
@@ -60,22 +60,22 @@ pub record Covers (e : Effect) (h d : Held) : Type 0 where
 
 -- THE THEOREM'S PARTS, for the call on i from h
 pub record Effect-holds (i : Instruction) (h : Held) : Type 0 where
-  pub rows : Covers (saidOf (effectOf i)) h (called h i)
+  pub rows : Covers (effectSaid (effectOf i)) h (called h i)
   pub stack : (e : Effect) → effectOf i ≡ affected.Modelled e → e .«defines_stack» ≡ false → KeepsStack h (called h i)
   pub anew : (e : Effect) → effectOf i ≡ affected.Modelled e → e .«uses_stack» ≡ false → Anew h (called h i)
 
 -- The rows pass their tests where they stand
-call-covers : (h : Held) (i : Instruction) → Covers (saidOf (effectOf i)) h (called h i)
+call-covers : (h : Held) (i : Instruction) → Covers (effectSaid (effectOf i)) h (called h i)
 unfolding stepped gives coveredStatement coveredNode
 call-covers h i =
-    by-call (Covers (saidOf (effectOf i)) h) h i (λ r. record {
+    by-call (Covers (effectSaid (effectOf i)) h) h i (λ r. record {
       status = λ j x y z. absurd (none _ j x y);
       flags = λ j x y z. absurd (none _ j x y);
       ax = λ j x y z. absurd (none _ j x y);
       uses = λ v x y z. absurd (none _ v x y);
       reads = λ v x y z. absurd (none _ v x y);
     }) (λ w.
-    let e = saidOf (effectOf i) in
+    let e = effectSaid (effectOf i) in
     let m = lowered-makes i (h .st) in
     let s = each-row (coveredStatement e) _ _ (h .st .statements) (w .rows′) (m .said) in
     let n = each-row (coveredNode e) _ _ (h .st .nodes) (w .rows) (m .nodes) in

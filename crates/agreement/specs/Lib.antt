@@ -16,7 +16,7 @@ pub mod Values
 pub mod Bench
 pub mod InWords
 pub mod Applied
-pub mod Written
+pub mod Added
 pub mod Counted
 pub mod Widths
 pub mod Covers

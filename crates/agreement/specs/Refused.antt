@@ -23,7 +23,7 @@ use Rattle.moves.specs.Pushes.{declineX87Of, landOf, pushConstOf, pushSlotOf, p
 use Rattle.lifter.specs.Apply.{applyX87Of}
 use Rattle.lifter.specs.Lift.{loweredOf}
 use Rattle.agreement.specs.Runs.{Held, answered, stepped, called}
-use Rattle.agreement.specs.Written.{by-lift}
+use Rattle.agreement.specs.Added.{by-lift}
 
 -- A step that answers 0, 1 or 2
 abbrev Answers : Built → Type 0

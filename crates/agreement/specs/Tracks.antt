@@ -19,7 +19,7 @@ use Rattle.agreement.specs.Demands.{demandedAt}
 use Rattle.agreement.specs.Fine.{grown, Placed, Knows, grown-stays, length-grown, Given, Fine}
 use Rattle.agreement.specs.Stands.{Stands, take-grown, numbered-order, after-exact, nodes-step, statements-step}
 use Rattle.agreement.specs.Fine.Lifts.{lowered-fine}
-use Rattle.agreement.specs.Written.{room-words, loweredAt, by-call}
+use Rattle.agreement.specs.Added.{room-words, loweredAt, by-call}
 pub mod Sorts
 
 -- What holds of h, where the run began over Γ₀ and m₀ statements

@@ -21,7 +21,7 @@ use Rattle.agreement.specs.Fits.{firstOf, isMemory}
 use Rattle.agreement.specs.Laid.{each-row}
 use Rattle.agreement.specs.Makes.{ofOperand}
 use Rattle.agreement.specs.Makes.Lowered.{lowered-makes}
-use Rattle.agreement.specs.Written.{by-call}
+use Rattle.agreement.specs.Added.{by-call}
 use Rattle.agreement.specs.Counted.{since}
 
 -- Statement j, a load or a store, is of this operand: a load has its address number second, a store first, and the third field is its width

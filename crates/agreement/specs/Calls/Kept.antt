@@ -22,7 +22,7 @@ use Rattle.agreement.specs.Fine.Valid.{inside}
 use Rattle.agreement.specs.Tracks.{Tracks}
 
 -- Eight slots, and numbers of 32 bits
-pub record Small (s : State) : Type 0 where
+pub record Narrow (s : State) : Type 0 where
   pub eight : length (s .slots) ≡ 8
   pub slot : (k : ℕ) → getD (s .slots) k 0 < 4294967296
   pub depth : s .depth < 4294967296
@@ -32,9 +32,9 @@ pub record Small (s : State) : Type 0 where
   pub temporaries : s .temporaries < 4294967296
 
 -- Every state of a run is so
-pub tracked-small : {Γ₀ : List ℕ} {m₀ : ℕ} {Γ : List ℕ} {h : Held} → Tracks Γ₀ m₀ Γ h → Small (h .st)
+pub tracked-narrow : {Γ₀ : List ℕ} {m₀ : ℕ} {Γ : List ℕ} {h : Held} → Tracks Γ₀ m₀ Γ h → Narrow (h .st)
 unfolding roomOf
-tracked-small {Γ = Γ} {h = h} t =
+tracked-narrow {Γ = Γ} {h = h} t =
     let p = t .placed in
     let r = t .room in
     let r′ = t .room′ in
@@ -64,7 +64,7 @@ in-front w s h = sets-eq (stateWords s) w 0 h
 small-word : (n : ℕ) → n < 4294967296 → low32 n ≡ n
 small-word n h = mod-eq-of-lt h
 
-module _ (w : List ℕ) (s : State) (h : 13 ≤ length w) (b : Small s) where
+module _ (w : List ℕ) (s : State) (h : 13 ≤ length w) (b : Narrow s) where
   -- READ BACK
   pub state-back : stateIn (laid w 0 (stateWords s)) ≡ s
   unfolding stateIn stateWords

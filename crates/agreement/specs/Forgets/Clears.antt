@@ -23,7 +23,7 @@ use Rattle.lifter.specs.Apply.{applyX87Of}
 use Rattle.lifter.specs.Lift.{loweredOf}
 use Rattle.memory.specs.Site.{siteOf}
 use Rattle.agreement.specs.Runs.{Held, declines, answered, stepped, called}
-use Rattle.agreement.specs.Written.{by-lift}
+use Rattle.agreement.specs.Added.{by-lift}
 
 -- Where a step's answer is a decline, no place is used
 abbrev Clears : Built → Type 0

@@ -24,17 +24,17 @@ untouched =
     record { «defines_stack» = false; «defines_status» = false; «uses_stack» = false; «uses_status» = false; «defines_flags» = false; «reads_flags» = false; «writes_ax» = false }
 
 -- What an answer says of the effect; beside a decline and a refusal, nothing
-abbrev pub saidOf : Affected → Effect
-saidOf (affected.Modelled e) = e
-saidOf affected.Declined = untouched
-saidOf affected.BadText = untouched
-saidOf affected.BadOperands = untouched
+abbrev pub effectSaid : Affected → Effect
+effectSaid (affected.Modelled e) = e
+effectSaid affected.Declined = untouched
+effectSaid affected.BadText = untouched
+effectSaid affected.BadOperands = untouched
 
-pub lowered-makes : (i : Instruction) (s : State) → Makes (saidOf (effectOf i)) (firstOf i) s (loweredOf s (classifyOf i) (siteOf i))
+pub lowered-makes : (i : Instruction) (s : State) → Makes (effectSaid (effectOf i)) (firstOf i) s (loweredOf s (classifyOf i) (siteOf i))
 unfolding loweredOf effectOf
 lowered-makes i s = way (classifyOf i) refl
   where
-    way : (c : Classified) → classifyOf i ≡ c → Makes (saidOf (affectedOf c (eqb (firstOf i .kind) 0))) (firstOf i) s (loweredOf s c (siteOf i))
+    way : (c : Classified) → classifyOf i ≡ c → Makes (effectSaid (affectedOf c (eqb (firstOf i .kind) 0))) (firstOf i) s (loweredOf s c (siteOf i))
     way (Modelled form) e = apply-makes (firstOf i) (siteOf i) refl refl s form (classify-fits i form e)
     way Declined e = decline s 1 (i .address)
     way BadText e = nothing 3 self

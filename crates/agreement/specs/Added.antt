@@ -27,7 +27,7 @@ abbrev pub loweredAt : Held → Instruction → Built
 loweredAt h i = loweredOf (h .st) (classifyOf i) (siteOf i)
 
 -- Its rows are counted, stand behind those that were there, and leave them
-pub record Written (h : Held) (b : Built) : Type 0 where
+pub record Added (h : Held) (b : Built) : Type 0 where
   pub counts : b .st .nodes ≡ h .st .nodes + length (b .ns)
   pub counts′ : b .st .statements ≡ h .st .statements + length (b .ss)
   pub rows : Lies (wrote (h .nodes) (b .ns)) (h .st .nodes) (b .ns)
@@ -50,7 +50,7 @@ kept-word n l m j h e = sym (getD-take n l j 0 h) ∙ ap (λ (w : List ℕ). get
 
 module _ (h : Held) (b : Built) where
   written : Adds (h .st) 46 5 b → validOf (h .st) (roomOf (length (h .nodes))) (roomOf (length (h .statements))) ≡ true
-      → b .st .nodes ≤ roomOf (length (h .nodes)) → b .st .statements ≤ roomOf (length (h .statements)) → Written h b
+      → b .st .nodes ≤ roomOf (length (h .nodes)) → b .st .statements ≤ roomOf (length (h .statements)) → Added h b
   written a e r r′ =
       let v = is-valid (h .st) (roomOf (length (h .nodes))) (roomOf (length (h .statements))) e in
       let n = room-words (length (h .nodes)) (h .st .nodes) (v .nodes) in
@@ -75,7 +75,7 @@ module _ (h : Held) (b : Built) where
 
 -- EVERY LIFT: what holds of a refusal with 5, 6 and 7, and of the instruction's step where its rows stand in the words, holds of the lift
 pub by-lift : (P : Built → Type 0) (h : Held) (i : Instruction) → P (gives (h .st) 5) → P (gives (h .st) 6) → P (gives (h .st) 7)
-    → (validOf (h .st) (roomOf (length (h .nodes))) (roomOf (length (h .statements))) ≡ true → Written h (loweredAt h i) → P (loweredAt h i))
+    → (validOf (h .st) (roomOf (length (h .nodes))) (roomOf (length (h .statements))) ≡ true → Added h (loweredAt h i) → P (loweredAt h i))
     → P (liftOf (h .st) i (h .nodes) (h .statements))
 unfolding liftOf fittingOf
 by-lift P h i p₅ p₆ p₇ f =
@@ -94,6 +94,6 @@ by-lift P h i p₅ p₆ p₇ f =
 
 -- .. and so of what a call leaves
 pub by-call : (P : Held → Type 0) (h : Held) (i : Instruction) → ((r : ℕ) → P (stepped h (gives (h .st) r)))
-    → (Written h (loweredAt h i) → P (stepped h (loweredAt h i))) → P (called h i)
+    → (Added h (loweredAt h i) → P (stepped h (loweredAt h i))) → P (called h i)
 unfolding called
 by-call P h i f g = by-lift (λ (b : Built). P (stepped h b)) h i (f 5) (f 6) (f 7) (λ _ w. g w)
