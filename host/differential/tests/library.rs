@@ -101,16 +101,11 @@ fn values_are_those_of_cvc5() {
 #[test]
 fn the_binding_of_formulas_tests_lengths_first() {
     let (mut out, mut image) = ([7; 16], [7; 10]);
-    assert_eq!(sleetgate_sys::image_read(&[0; 9], 0, 0, &mut out), 10);
     assert_eq!(sleetgate_sys::image_read(&[0; 10], 0, 0, &mut out[..1]), 10);
     assert_eq!(sleetgate_sys::image_write(&mut image[1..], 0, 0), 10);
     assert_eq!(sleetgate_sys::check(&[], 0, &mut []), 10);
     assert_eq!(sleetgate_sys::evaluate(&[], 0, &[], &mut out, &mut []), 10);
     let (state, told) = out.split_at_mut(13);
-    assert_eq!(
-        sleetgate_sys::lift_record(&[], 0, &mut state[1..], &mut [], &mut [], told),
-        10
-    );
     assert_eq!(
         sleetgate_sys::lift_record(&[], 0, state, &mut [], &mut [], &mut told[..1]),
         10
