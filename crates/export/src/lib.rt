@@ -16,6 +16,18 @@ ghost use Rattle.export.specs.Answers.{Classifies, Affects, ReadsRecord,
 use forms::Instruction;
 use lists::State;
 
+// Classifies the instruction in bytes that are there, where there is room to tell.
+fn classify_in(flat: &[u8], out: &mut [u64]) -> u32
+    requires { ⌜ (177 ≤ length (now flat)) × (8 ≤ length (now out)) ⌝ }
+    ensures { λ r. ⌜ Classifies (now (flat .entry)) (now (out .entry)) r (now (out .exit)) ⌝ }
+{
+    let insn = flat::read(flat);
+    let answer = forms::classify(insn);
+    let w = answers::fields(answer);
+    answers::lay(out, &w);
+    answers::number(answer)
+}
+
 // Classifies the instruction that stands in the first 177 bytes, and tells its form's eight words.
 #[no_mangle]
 pub extern "C" fn x87_classify(flat: &[u8], out: &mut [u64]) -> u32
@@ -23,17 +35,25 @@ pub extern "C" fn x87_classify(flat: &[u8], out: &mut [u64]) -> u32
 {
     if 8 <= out.len() {
         if 177 <= flat.len() {
-            let insn = flat::read(flat);
-            let answer = forms::classify(insn);
-            let w = answers::fields(answer);
-            answers::lay(out, &w);
-            return answers::number(answer);
+            return classify_in(flat, out);
         }
         let none = [0u64; 8];
         answers::lay(out, &none);
         return 10;
     }
     10
+}
+
+// The effect of the instruction in bytes that are there, where there is room to tell.
+fn effect_in(flat: &[u8], out: &mut [u64]) -> u32
+    requires { ⌜ (177 ≤ length (now flat)) × (7 ≤ length (now out)) ⌝ }
+    ensures { λ r. ⌜ Affects (now (flat .entry)) (now (out .entry)) r (now (out .exit)) ⌝ }
+{
+    let insn = flat::read(flat);
+    let answer = forms::x87_effect(insn);
+    let w = answers::effect_fields(answer);
+    answers::lay(out, &w);
+    answers::effect_number(answer)
 }
 
 // Tells the seven flags of what the instruction touches.
@@ -43,11 +63,7 @@ pub extern "C" fn x87_effect(flat: &[u8], out: &mut [u64]) -> u32
 {
     if 7 <= out.len() {
         if 177 <= flat.len() {
-            let insn = flat::read(flat);
-            let answer = forms::x87_effect(insn);
-            let w = answers::effect_fields(answer);
-            answers::lay(out, &w);
-            return answers::effect_number(answer);
+            return effect_in(flat, out);
         }
         let none = [0u64; 7];
         answers::lay(out, &none);
@@ -66,6 +82,21 @@ fn write_if(flat: &mut [u8], insn: Instruction, there: bool)
     }
 }
 
+// Reads the record at a place into bytes that are there, where there is room to tell.
+fn read_in(input: &[u8], at: usize, flat: &mut [u8], out: &mut [u64]) -> u32
+    requires { ⌜ (177 ≤ length (now flat)) × (2 ≤ length (now out)) ⌝ }
+    ensures { λ r. ⌜ ReadsRecord (takenAt (now (input .entry)) at) (now (flat .entry)) (now (out .entry)) r (now (flat .exit)) (now (out .exit)) ⌝ }
+{
+    let t = reader::record_at(input, at);
+    let o = t.outcome;
+    let insn = t.insn;
+    let there = answers::is_record(o);
+    let w = [answers::place(o) as u64, answers::bit(there)];
+    answers::lay(out, &w);
+    write_if(flat, insn, there);
+    answers::outcome_number(o)
+}
+
 // Reads the record at a place: tells the next place or the offending one and whether a record was read, and writes its instruction.
 #[no_mangle]
 pub extern "C" fn x87_read_record(input: &[u8], at: usize, flat: &mut [u8], out: &mut [u64]) -> u32
@@ -73,14 +104,7 @@ pub extern "C" fn x87_read_record(input: &[u8], at: usize, flat: &mut [u8], out:
 {
     if 2 <= out.len() {
         if 177 <= flat.len() {
-            let t = reader::record_at(input, at);
-            let o = t.outcome;
-            let insn = t.insn;
-            let there = answers::is_record(o);
-            let w = [answers::place(o) as u64, answers::bit(there)];
-            answers::lay(out, &w);
-            write_if(flat, insn, there);
-            return answers::outcome_number(o);
+            return read_in(input, at, flat, out);
         }
         let none = [0u64; 2];
         answers::lay(out, &none);
@@ -149,6 +173,32 @@ fn tell(out: &mut [u64], answer: u32, next: usize, at: usize)
     }
 }
 
+// Reads the record at a place and lifts its instruction over a state of 13 words, where there is room to tell.
+fn lift_record_in(
+    input: &[u8],
+    at: usize,
+    state: &mut [u64],
+    nodes: &mut [u64],
+    statements: &mut [u64],
+    out: &mut [u64],
+) -> u32
+    requires { ⌜ (13 ≤ length (now state)) × (2 ≤ length (now out)) ⌝ }
+    ensures { λ r. ⌜ Steps (steppedOf (takenAt (now (input .entry)) at) at (now (state .entry)) (now (nodes .entry)) (now (statements .entry))) (now (state .entry)) (now (nodes .entry)) (now (statements .entry)) (now (out .entry)) r (now (state .exit)) (now (nodes .exit)) (now (statements .exit)) (now (out .exit)) ⌝ }
+{
+    let t = reader::record_at(input, at);
+    let o = t.outcome;
+    let insn = t.insn;
+    let next = answers::place(o);
+    if answers::is_record(o) {
+        let answer = lift_in(insn, state, nodes, statements);
+        tell(out, answer, next, at);
+        return answer;
+    }
+    let w = [next as u64, 0];
+    answers::lay(out, &w);
+    answers::outcome_number(o)
+}
+
 // Reads the record at a place and lifts its instruction.
 #[no_mangle]
 pub extern "C" fn x87_lift_record(
@@ -163,18 +213,7 @@ pub extern "C" fn x87_lift_record(
 {
     if 2 <= out.len() {
         if 13 <= state.len() {
-            let t = reader::record_at(input, at);
-            let o = t.outcome;
-            let insn = t.insn;
-            let next = answers::place(o);
-            if answers::is_record(o) {
-                let answer = lift_in(insn, state, nodes, statements);
-                tell(out, answer, next, at);
-                return answer;
-            }
-            let w = [next as u64, 0];
-            answers::lay(out, &w);
-            return answers::outcome_number(o);
+            return lift_record_in(input, at, state, nodes, statements, out);
         }
         let none = [0u64; 2];
         answers::lay(out, &none);

@@ -6,29 +6,8 @@ use borrow.Author.Needs.{needs}
 use Rattle.export.proofs.x87_read_record.Statement.{statement}
 use Rattle.export.proofs.x87_read_record.Tie as tie
 
-record-at-requires : tie.Need-record-at-requires
-record-at-requires c κs = search needs
-
-is-record-requires : tie.Need-is-record-requires
-is-record-requires c κs = search needs
-
-place-requires : tie.Need-place-requires
-place-requires c κs = search needs
-
-bit-requires : tie.Need-bit-requires
-bit-requires c κs = search needs
-
-slice-aggregate-lay : tie.Need-slice-aggregate-lay
-slice-aggregate-lay c = search needs
-
-lay-requires : tie.Need-lay-requires
-lay-requires c κs = search needs
-
-write-if-requires : tie.Need-write-if-requires
-write-if-requires c κs = search needs
-
-outcome-number-requires : tie.Need-outcome-number-requires
-outcome-number-requires c κs = search needs
+read-in-requires : tie.Need-read-in-requires
+read-in-requires c κs = search needs
 
 same-length : tie.Need-same-length
 same-length c = search needs
@@ -37,25 +16,13 @@ same-length-2 : tie.Need-same-length-2
 same-length-2 c = search needs
 
 returns : tie.Need-returns
-unfolding readInto
-returns c =
-    let d = c .before .before .before in
-    let e = d .before .before .before .before in
-    let f = e .before .before .before in
-    let b = f .before .before .before .before in
-    let t = b .record-at .ensures in
-    let h = le-leb _ _ (b .before .if2 .taken) in
-    let k = b .before .before .if1 .taken in
-    record {
-      told = rw h (tells _ _ _ k (rw t at (c .outcome-number .ensures)) (rw (← t, ← f .before .before .is-record .ensures, ← f .before .place .ensures, ← f .bit .ensures) (e .lay .ensures)));
-      bytes = rw (le-leb _ _ k, h, ← t, ← f .before .before .is-record .ensures) (d .write-if .ensures);
-    }
+returns c = c .before .before .before .before .read-in .ensures
 
-slice-aggregate-lay-2 : tie.Need-slice-aggregate-lay-2
-slice-aggregate-lay-2 c = search needs
+slice-aggregate-lay : tie.Need-slice-aggregate-lay
+slice-aggregate-lay c = search needs
 
-lay-requires-2 : tie.Need-lay-requires-2
-lay-requires-2 c κs = search needs
+lay-requires : tie.Need-lay-requires
+lay-requires c κs = search needs
 
 same-length-3 : tie.Need-same-length-3
 same-length-3 c = search needs
@@ -66,28 +33,11 @@ returns-2 c =
     let b = c .before .before .before .before .before in
     let h = lt-leb _ _ (b .if2 .left) in
     let k = b .before .if1 .taken in
-    record { told = rw h (tells _ _ _ k refl (c .before .before .lay2 .ensures)); bytes = rw (le-leb _ _ k, h) }
+    record { told = rw h (tells _ _ _ k refl (c .before .before .lay .ensures)); bytes = rw (le-leb _ _ k, h) }
 
 returns-3 : tie.Need-returns-3
 returns-3 c = record { told = untold _ _ _ (c .if1 .left); bytes = rw (lt-leb _ _ (c .if1 .left)) }
 
 pub x87-read-record-spec : {M : Type 1} → statement M
 x87-read-record-spec =
-    tie.close
-    (tie.spec
-    record-at-requires
-    is-record-requires
-    place-requires
-    bit-requires
-    slice-aggregate-lay
-    lay-requires
-    write-if-requires
-    outcome-number-requires
-    same-length
-    same-length-2
-    returns
-    slice-aggregate-lay-2
-    lay-requires-2
-    same-length-3
-    returns-2
-    returns-3)
+    tie.close (tie.spec read-in-requires same-length same-length-2 returns slice-aggregate-lay lay-requires same-length-3 returns-2 returns-3)
