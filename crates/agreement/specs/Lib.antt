@@ -22,6 +22,7 @@ pub mod Widths
 pub mod Covers
 pub mod Refused
 pub mod Calls
+pub mod Beside
 pub mod Image
 pub mod Determined
 pub mod Handed

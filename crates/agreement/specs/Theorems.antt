@@ -16,10 +16,11 @@ use Rattle.forms.specs.declared.Classified.the-variants.{Modelled}
 use Rattle.forms.specs.Classify.{classifyOf}
 use Rattle.records.specs.Format.{takenAt}
 use Rattle.records.specs.declared.Cursor.{Cursor}
+use Rattle.records.specs.declared.Taken.{Taken}
 use Rattle.records.specs.declared.Outcome.the-variants.{Record}
 use Rattle.lifter.specs.Lift.{liftOf}
 use Rattle.evaluator.specs.Within.{GivenFits}
-use Rattle.export.specs.Answers.{ReadsRecord}
+use Rattle.export.specs.Answers.{ReadsRecord, classified}
 use Rattle.export.specs.Lifts.{liftedOf}
 use Rattle.export.specs.Steps.{steppedOf}
 use Rattle.listing.specs.Run.{runOf}
@@ -40,7 +41,8 @@ use Rattle.agreement.specs.Counted.{Counted, Since, counted, since}
 use Rattle.agreement.specs.Widths.{OfOperand, widths}
 use Rattle.agreement.specs.Covers.{Effect-holds, effect-holds}
 use Rattle.agreement.specs.Refused.{refused}
-use Rattle.agreement.specs.Calls.{Call, Words, makes, allHanded, inHand, calls-run}
+use Rattle.agreement.specs.Calls.{Call, makes, allHanded, inHand, calls-run}
+use Rattle.agreement.specs.Beside.{Zeros, PlaceAndZero, classify-beside, step-beside}
 
 -- 1 WHAT IS LIFTED IS SORTED: the state is valid, the sort check passes the nodes, each used place of the stack names a node of 79 bits,
 -- and each statement names a node as wide as its place demands
@@ -123,3 +125,10 @@ theorem-12 = refused
 pub theorem-13 : (nodes statements state : List ℕ) (cs : List Call) → take 13 state ≡ replicate 13 0
     → inHand (makes (record { state = state; nodes = nodes; statements = statements }) cs) ≡ ran (begun nodes statements) (allHanded cs)
 theorem-13 = calls-run
+
+-- 14 WHAT IS TOLD BESIDE A REFUSAL is 0, but a place that is named; the other calls that tell words are beside it in Beside
+pub theorem-14 : (flat : List ℕ) → Zeros 8 (classified flat)
+theorem-14 = classify-beside
+
+pub theorem-14-record : (t : Taken) (at : ℕ) (s n m : List ℕ) → let x = steppedOf t at s n m in leb (x .lifted .answer) 2 ≡ false → PlaceAndZero (x .told)
+theorem-14-record = step-beside
