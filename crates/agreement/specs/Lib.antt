@@ -25,5 +25,6 @@ pub mod Calls
 pub mod Beside
 pub mod Image
 pub mod Determined
+pub mod Cited
 pub mod Handed
 pub mod Program

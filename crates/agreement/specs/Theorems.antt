@@ -1,5 +1,6 @@
 -- THE THEOREMS, each with its words, its statement, and where it is proved. A run is any list of instructions, lifted one after the other
--- from the fresh state over any two lists, refused calls among them; `begun` is its start, `called` one call more, `ran` any number (Runs)
+-- from the fresh state over any two lists, refused calls among them; `begun` is its start, `called` one call more, `ran` any number (Runs).
+-- That these are what the contracts of the calls claim is said in Cited
 use mathlib.Core.Path.{_≡_}
 use mathlib.Core.Bool.{Bool, true, false}
 use mathlib.Core.List.{List}

@@ -20,7 +20,7 @@ const WITH_LAWS: [&str; 6] = ["lists", "exprs", "memory", "moves", "lifter", "ag
 
 /// Programs, and what cites the contracts of functions.
 const LEFT_OUT: [&str; 2] = ["replay", "x87lift"];
-const CITES_CODE: [&str; 2] = ["Determined", "Theorems"];
+const CITES_CODE: [&str; 3] = ["Determined", "Cited", "Theorems"];
 
 /// A joint edit: the file whose theorem must refuse it, and what is
 /// replaced where.
