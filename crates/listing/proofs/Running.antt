@@ -19,7 +19,7 @@ use Rattle.records.specs.declared.Outcome.{Outcome}
 use Rattle.records.specs.declared.Outcome.the-variants.{Record, End, Refused}
 use Rattle.lifter.specs.Lift.{liftOf}
 use Rattle.listing.specs.Run.{Ran, Runs, runFrom, runOf}
-use Rattle.listing.specs.Turn.{Turned, goes, goingOn, haltedAt}
+use Rattle.listing.specs.Inside.Turn.{Turned, goes, goingOn, haltedAt}
 use Rattle.listing.specs.Enough.{enough, past-end, record-onward}
 use Rattle.listing.specs.declared.Stop.{Stop}
 use Rattle.listing.specs.declared.Progress.{Progress}

@@ -1,5 +1,6 @@
 pub mod Run
-pub mod Turn
+-- how the code does it: no public promise rests on this
+pub mod Inside
 pub mod Text
 pub mod Listing
 pub mod Enough

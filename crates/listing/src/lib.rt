@@ -4,7 +4,7 @@ mod print;
 ghost use mathlib.Core.Path.{_≡_};
 ghost use lib.ListN.{length};
 ghost use Rattle.listing.specs.Run.{Runs, runFrom, runOf, stoppedAt};
-ghost use Rattle.listing.specs.Turn.{Turned, goes, goingOn, haltedAt};
+ghost use Rattle.listing.specs.Inside.Turn.{Turned, goes, goingOn, haltedAt};
 ghost use Rattle.listing.specs.Listing.{Lists, textOf};
 use lists::State;
 use records::Outcome;

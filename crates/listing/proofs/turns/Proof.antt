@@ -68,7 +68,7 @@ use Rattle.reader.proofs.take.Symbol as take-def
 use Rattle.reader.proofs.take.Symbol.{name as #reader·take}
 use Rattle.reader.proofs.take.Met as take-thm
 use Rattle.listing.specs.Run.{Runs}
-use Rattle.listing.specs.Turn.{Turned}
+use Rattle.listing.specs.Inside.Turn.{Turned}
 use Rattle.listing.specs.declared.Progress.{Progress}
 use Rattle.listing.proofs.Progress as P
 use Rattle.listing.proofs.Progress.Laws as P′
