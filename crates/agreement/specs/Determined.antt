@@ -512,6 +512,50 @@ evaluator·check κ a r s x y = one
 pub evaluator·evaluate : Determined₁ Rattle.evaluator.proofs.evaluate.Reads.Post (λ κ x. now (x .1 .1 .1 .0))
 evaluator·evaluate κ a r s x y = follows (λ (o : Outcome). columnAfter o (now (a .0)) (a .1 .0) (now (a .1 .1 .0)) (now (a .1 .1 .1 .0)))
 
+-- answers
+
+pub answers·bit : Determined Rattle.answers.proofs.bit.Reads.Post
+answers·bit κ a r s x y = one
+
+pub answers·number : Determined Rattle.answers.proofs.number.Reads.Post
+answers·number κ a r s x y = one
+
+pub answers·fields : Determined Rattle.answers.proofs.fields.Reads.Post
+answers·fields κ a r s x y = one
+
+pub answers·effect-number : Determined Rattle.answers.proofs.effect_number.Reads.Post
+answers·effect-number κ a r s x y = one
+
+pub answers·effect-fields : Determined Rattle.answers.proofs.effect_fields.Reads.Post
+answers·effect-fields κ a r s x y = one
+
+pub answers·outcome-number : Determined Rattle.answers.proofs.outcome_number.Reads.Post
+answers·outcome-number κ a r s x y = one
+
+pub answers·place : Determined Rattle.answers.proofs.place.Reads.Post
+answers·place κ a r s x y = one
+
+pub answers·is-record : Determined Rattle.answers.proofs.is_record.Reads.Post
+answers·is-record κ a r s x y = one
+
+pub answers·found-number : Determined Rattle.answers.proofs.values.found_number.Reads.Post
+answers·found-number κ a r s x y = one
+
+pub answers·written-number : Determined Rattle.answers.proofs.values.written_number.Reads.Post
+answers·written-number κ a r s x y = one
+
+pub answers·verdict-number : Determined Rattle.answers.proofs.values.verdict_number.Reads.Post
+answers·verdict-number κ a r s x y = one
+
+pub answers·verdict-node : Determined Rattle.answers.proofs.values.verdict_node.Reads.Post
+answers·verdict-node κ a r s x y = one
+
+pub answers·evaluated-number : Determined Rattle.answers.proofs.values.evaluated_number.Reads.Post
+answers·evaluated-number κ a r s x y = one
+
+pub answers·evaluated-node : Determined Rattle.answers.proofs.values.evaluated_node.Reads.Post
+answers·evaluated-node κ a r s x y = one
+
 -- export
 
 pub export·x87-classify : Determined₁ Rattle.export.proofs.x87_classify.Reads.Post (λ κ x. now (x .1 .0))

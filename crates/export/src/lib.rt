@@ -1,5 +1,4 @@
 // What Rust calls, on numbers and slices: classify, effect, the reader of records, the lifter, the image, the sort check and the evaluator.
-mod answers;
 mod flat;
 mod state;
 pub mod values;
@@ -16,6 +15,18 @@ ghost use Rattle.export.specs.Answers.{Classifies, Affects, ReadsRecord,
 use forms::Instruction;
 use lists::State;
 
+// Writes words to the front of a lent slice.
+pub(crate) fn lay(out: &mut [u64], w: &[u64])
+    requires { ⌜ length (now w) ≤ length (now out) ⌝ }
+    ensures { λ _. ⌜ now (out .exit) ≡ laid (now (out .entry)) 0 (now (w .entry)) ⌝ }
+{
+    let mut i = 0;
+    while i < w.len() {
+        out[i] = w[i];
+        i += 1;
+    }
+}
+
 // Classifies the instruction in bytes that are there, where there is room to tell.
 fn classify_in(flat: &[u8], out: &mut [u64]) -> u32
     requires { ⌜ (177 ≤ length (now flat)) × (8 ≤ length (now out)) ⌝ }
@@ -24,7 +35,7 @@ fn classify_in(flat: &[u8], out: &mut [u64]) -> u32
     let insn = flat::read(flat);
     let answer = forms::classify(insn);
     let w = answers::fields(answer);
-    answers::lay(out, &w);
+    lay(out, &w);
     answers::number(answer)
 }
 
@@ -38,7 +49,7 @@ pub extern "C" fn x87_classify(flat: &[u8], out: &mut [u64]) -> u32
             return classify_in(flat, out);
         }
         let none = [0u64; 8];
-        answers::lay(out, &none);
+        lay(out, &none);
         return 10;
     }
     10
@@ -52,7 +63,7 @@ fn effect_in(flat: &[u8], out: &mut [u64]) -> u32
     let insn = flat::read(flat);
     let answer = forms::x87_effect(insn);
     let w = answers::effect_fields(answer);
-    answers::lay(out, &w);
+    lay(out, &w);
     answers::effect_number(answer)
 }
 
@@ -66,7 +77,7 @@ pub extern "C" fn x87_effect(flat: &[u8], out: &mut [u64]) -> u32
             return effect_in(flat, out);
         }
         let none = [0u64; 7];
-        answers::lay(out, &none);
+        lay(out, &none);
         return 10;
     }
     10
@@ -92,7 +103,7 @@ fn read_in(input: &[u8], at: usize, flat: &mut [u8], out: &mut [u64]) -> u32
     let insn = t.insn;
     let there = answers::is_record(o);
     let w = [answers::place(o) as u64, answers::bit(there)];
-    answers::lay(out, &w);
+    lay(out, &w);
     write_if(flat, insn, there);
     answers::outcome_number(o)
 }
@@ -107,7 +118,7 @@ pub extern "C" fn x87_read_record(input: &[u8], at: usize, flat: &mut [u8], out:
             return read_in(input, at, flat, out);
         }
         let none = [0u64; 2];
-        answers::lay(out, &none);
+        lay(out, &none);
         return 10;
     }
     10
@@ -120,7 +131,7 @@ fn keep(state: &mut [u64], s: State, answer: u32)
 {
     if answer <= 2 {
         let w = state::words(s);
-        answers::lay(state, &w);
+        lay(state, &w);
     }
 }
 
@@ -166,10 +177,10 @@ fn tell(out: &mut [u64], answer: u32, next: usize, at: usize)
 {
     if answer <= 2 {
         let w = [next as u64, 1];
-        answers::lay(out, &w);
+        lay(out, &w);
     } else {
         let w = [at as u64, 0];
-        answers::lay(out, &w);
+        lay(out, &w);
     }
 }
 
@@ -195,7 +206,7 @@ fn lift_record_in(
         return answer;
     }
     let w = [next as u64, 0];
-    answers::lay(out, &w);
+    lay(out, &w);
     answers::outcome_number(o)
 }
 
@@ -216,7 +227,7 @@ pub extern "C" fn x87_lift_record(
             return lift_record_in(input, at, state, nodes, statements, out);
         }
         let none = [0u64; 2];
-        answers::lay(out, &none);
+        lay(out, &none);
         return 10;
     }
     10

@@ -41,6 +41,8 @@ pub mod subject;
 pub mod trees;
 pub mod values;
 pub mod wellformed;
+#[cfg(not(no_oracle))]
+pub mod work;
 
 #[cfg(not(no_oracle))]
 pub mod oracle;

@@ -86,7 +86,11 @@ fn calls() -> Vec<Call> {
             if let Some(module) = line.strip_prefix("pub mod ") {
                 let module = module.trim_end_matches(';');
                 let text = read(&source.join(format!("{module}.rt")));
-                out.extend(public(&krate, &format!("Rattle.{krate}.proofs.{module}"), &text));
+                out.extend(public(
+                    &krate,
+                    &format!("Rattle.{krate}.proofs.{module}"),
+                    &text,
+                ));
             }
         }
     }
@@ -163,10 +167,19 @@ fn another_statement_is_reported() {
         assert!(text.contains(old), "{old}");
         missing(&text.replace(old, new), &calls())
     };
-    assert_eq!(said("pub lifter·lift :", "pub lifter·left :"), ["lifter::lift"]);
-    assert_eq!(said("proofs.bv_xor.Reads", "proofs.bv_and.Reads"), ["exprs::bv_xor"]);
+    assert_eq!(
+        said("pub lifter·lift :", "pub lifter·left :"),
+        ["lifter::lift"]
+    );
+    assert_eq!(
+        said("proofs.bv_xor.Reads", "proofs.bv_and.Reads"),
+        ["exprs::bv_xor"]
+    );
     let lift = "lifter.proofs.lift.Reads.Post (λ κ x. now (x .0))";
     let lent = " (λ κ x. now (x .1 .0))";
     assert_eq!(said(&format!("{lift}{lent}"), lift), ["lifter::lift"]);
-    assert_eq!(said("reader.proofs.take.clauses", "reader.proofs.new.clauses"), ["reader::take"]);
+    assert_eq!(
+        said("reader.proofs.take.clauses", "reader.proofs.new.clauses"),
+        ["reader::take"]
+    );
 }

@@ -125,10 +125,10 @@ fn declarations(source: &str) -> String {
 
 /// Copies the files of a folder, and of the folders in it where `deep`.
 fn copy(from: &Path, to: &Path, deep: bool, change: fn(&str) -> String) {
-    fs::create_dir_all(to).expect("a folder");
     let Ok(entries) = fs::read_dir(from) else {
         return;
     };
+    fs::create_dir_all(to).expect("a folder");
     for entry in entries {
         let path = entry.expect("an entry").path();
         let there = to.join(path.file_name().expect("a name"));

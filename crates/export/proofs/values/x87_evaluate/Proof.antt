@@ -8,14 +8,14 @@ use Rattle.export.proofs.values.x87_evaluate.Tie as tie
 evaluate-requires : tie.Need-evaluate-requires
 evaluate-requires c κs = search needs
 
-outcome-node-requires : tie.Need-outcome-node-requires
-outcome-node-requires c κs = search needs
+evaluated-node-requires : tie.Need-evaluated-node-requires
+evaluated-node-requires c κs = search needs
 
 slice-write-out : tie.Need-slice-write-out
 slice-write-out c = search needs
 
-outcome-number-requires : tie.Need-outcome-number-requires
-outcome-number-requires c κs = search needs
+evaluated-number-requires : tie.Need-evaluated-number-requires
+evaluated-number-requires c κs = search needs
 
 same-length : tie.Need-same-length
 same-length c = search needs
@@ -29,7 +29,7 @@ returns c =
     let e = c .before .before .before .before .evaluate .ensures in
     let h = c .before .before .before .before .before .before .if1 .taken in
     record {
-      told = tells _ _ _ h (rw (e .0) at (c .outcome-number .ensures)) (rw (← e .0, ← c .before .outcome-node .ensures));
+      told = tells _ _ _ h (rw (e .0) at (c .evaluated-number .ensures)) (rw (← e .0, ← c .before .evaluated-node .ensures));
       column = rw (le-leb _ _ h, ← e .0) (e .1);
     }
 
@@ -41,9 +41,9 @@ x87-evaluate-spec =
     tie.close
     (tie.spec
     evaluate-requires
-    outcome-node-requires
+    evaluated-node-requires
     slice-write-out
-    outcome-number-requires
+    evaluated-number-requires
     same-length
     same-length-2
     returns

@@ -1,6 +1,6 @@
 use borrow.Author.Needs.{needs}
-use Rattle.export.proofs.answers.flags.Statement.{statement}
-use Rattle.export.proofs.answers.flags.Tie as tie
+use Rattle.answers.proofs.flags.Statement.{statement}
+use Rattle.answers.proofs.flags.Tie as tie
 
 bit-requires : tie.Need-bit-requires
 bit-requires c κs = search needs

@@ -1,6 +1,6 @@
 use borrow.Author.Needs.{needs}
-use Rattle.export.proofs.answers.effect_fields.Statement.{statement}
-use Rattle.export.proofs.answers.effect_fields.Tie as tie
+use Rattle.answers.proofs.effect_fields.Statement.{statement}
+use Rattle.answers.proofs.effect_fields.Tie as tie
 
 enum-known-a : tie.Need-enum-known-a
 enum-known-a c = search needs

@@ -1,11 +1,10 @@
-// The numbers of answers and forms, as forms' and records' definitions give them.
+// The numbers of answers and forms, as the definitions of the crates below give them: what goes outside goes through these.
+pub mod values;
+
 ghost use mathlib.Core.Path.{_≡_};
 ghost use mathlib.Core.List.{[], _∷_};
-ghost use Prim.Native.Nat.{_≤_};
-ghost use lib.ListN.{length};
 ghost use Rattle.forms.specs.Numbers as forms;
 ghost use Rattle.records.specs.Numbers as records;
-ghost use Rattle.export.specs.Flat.{laid};
 use forms::Affected;
 use forms::ArithSrc;
 use forms::Classified;
@@ -18,7 +17,7 @@ use forms::X87Arith;
 use forms::X87Condition;
 use records::Outcome;
 
-pub(crate) fn bit(b: bool) -> u64
+pub fn bit(b: bool) -> u64
     ensures { λ r. ⌜ r ≡ forms.bit b ⌝ }
 {
     if b { 1 } else { 0 }
@@ -176,7 +175,7 @@ fn words(form: Form) -> [u64; 8]
 }
 
 // The answer's number, and the form's words: zeros beside a decline and a refusal.
-pub(crate) fn number(c: Classified) -> u32
+pub fn number(c: Classified) -> u32
     ensures { λ r. ⌜ r ≡ forms.numberOf c ⌝ }
 {
     match c {
@@ -187,7 +186,7 @@ pub(crate) fn number(c: Classified) -> u32
     }
 }
 
-pub(crate) fn fields(c: Classified) -> [u64; 8]
+pub fn fields(c: Classified) -> [u64; 8]
     ensures { λ r. ⌜ r ≡ forms.fieldsOf c ⌝ }
 {
     match c {
@@ -198,7 +197,7 @@ pub(crate) fn fields(c: Classified) -> [u64; 8]
     }
 }
 
-pub(crate) fn effect_number(a: Affected) -> u32
+pub fn effect_number(a: Affected) -> u32
     ensures { λ r. ⌜ r ≡ forms.effectNumber a ⌝ }
 {
     match a {
@@ -224,7 +223,7 @@ fn flags(e: Effect) -> [u64; 7]
     ]
 }
 
-pub(crate) fn effect_fields(a: Affected) -> [u64; 7]
+pub fn effect_fields(a: Affected) -> [u64; 7]
     ensures { λ r. ⌜ r ≡ forms.effectFields a ⌝ }
 {
     match a {
@@ -236,7 +235,7 @@ pub(crate) fn effect_fields(a: Affected) -> [u64; 7]
 }
 
 // An outcome's number, its place, and whether a record was read.
-pub(crate) fn outcome_number(o: Outcome) -> u32
+pub fn outcome_number(o: Outcome) -> u32
     ensures { λ r. ⌜ r ≡ records.numberOf o ⌝ }
 {
     match o {
@@ -246,7 +245,7 @@ pub(crate) fn outcome_number(o: Outcome) -> u32
     }
 }
 
-pub(crate) fn place(o: Outcome) -> usize
+pub fn place(o: Outcome) -> usize
     ensures { λ r. ⌜ r ≡ records.placeOf o ⌝ }
 {
     match o {
@@ -256,24 +255,12 @@ pub(crate) fn place(o: Outcome) -> usize
     }
 }
 
-pub(crate) fn is_record(o: Outcome) -> bool
+pub fn is_record(o: Outcome) -> bool
     ensures { λ r. ⌜ r ≡ records.recordIs o ⌝ }
 {
     match o {
         Outcome::Record(_) => true,
         Outcome::End(_) => false,
         Outcome::Refused(_, _) => false,
-    }
-}
-
-// Writes words to the front of a lent slice.
-pub(crate) fn lay(out: &mut [u64], w: &[u64])
-    requires { ⌜ length (now w) ≤ length (now out) ⌝ }
-    ensures { λ _. ⌜ now (out .exit) ≡ laid (now (out .entry)) 0 (now (w .entry)) ⌝ }
-{
-    let mut i = 0;
-    while i < w.len() {
-        out[i] = w[i];
-        i += 1;
     }
 }

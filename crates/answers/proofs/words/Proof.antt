@@ -1,6 +1,6 @@
 use borrow.Author.Needs.{needs}
-use Rattle.export.proofs.answers.words.Statement.{statement}
-use Rattle.export.proofs.answers.words.Tie as tie
+use Rattle.answers.proofs.words.Statement.{statement}
+use Rattle.answers.proofs.words.Tie as tie
 
 enum-known-form : tie.Need-enum-known-form
 enum-known-form c = search needs

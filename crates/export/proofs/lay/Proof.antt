@@ -6,8 +6,8 @@ use native.Mathlib.Omega.{arith}
 use lib.ListN.{length, take, length-set}
 use Rattle.export.specs.Flat.{laid}
 use Rattle.export.proofs.Places.{laid-none, laid-on, laid-end}
-use Rattle.export.proofs.answers.lay.Statement.{statement}
-use Rattle.export.proofs.answers.lay.Tie as tie
+use Rattle.export.proofs.lay.Statement.{statement}
+use Rattle.export.proofs.lay.Tie as tie
 
 abbrev Inv-loop : tie.InvT-loop
 Inv-loop out₀ w i₀ out i = (i ≤ length w) × (length out ≡ length out₀) × (out ≡ laid out₀ 0 (take i w))

@@ -1,0 +1,157 @@
+//! `count [CALL]`: the machine's instructions in a call of the library, as
+//! callgrind counts them, over calls that are the same for any library.
+//!
+//! Each line is a run of its own under valgrind, which counts inside the
+//! named call alone. `count CALL WORK` is such a run: it makes the calls
+//! and prints how many units they were, of which a line says the cost of
+//! one: an instruction lifted, read or classified, a node checked or
+//! evaluated.
+
+use std::process::ExitCode;
+
+#[cfg(no_oracle)]
+fn main() -> ExitCode {
+    println!("{}", differential::NO_ORACLE);
+    ExitCode::SUCCESS
+}
+
+#[cfg(not(no_oracle))]
+fn main() -> ExitCode {
+    if !sleetgate_sys::has_lift() {
+        eprintln!("{}", sleetgate_sys::MISSING_LIFT);
+        return ExitCode::FAILURE;
+    }
+    let words: Vec<String> = std::env::args().skip(1).collect();
+    match words.as_slice() {
+        [] => counted::table(&counted::CALLS),
+        [call] => counted::table(&[call]),
+        [call, work, ..] => counted::make(call, work),
+    }
+    ExitCode::SUCCESS
+}
+
+#[cfg(not(no_oracle))]
+mod counted {
+    use std::hint::black_box;
+    use std::process::Command;
+
+    use differential::formulas::random;
+    use differential::rng::Rng;
+    use differential::work::{Lists, WORKS, sequences};
+    use plain::{FLAT, Instruction};
+    use sleetgate_sys::{EFFECT, FORM, NAMED, READ};
+
+    /// The calls that are counted.
+    pub const CALLS: [&str; 7] = [
+        "x87_lift",
+        "x87_lift_record",
+        "x87_classify",
+        "x87_effect",
+        "x87_read_record",
+        "x87_check",
+        "x87_evaluate",
+    ];
+
+    /// The work of the calls on lists: their nodes are of all kinds.
+    const LISTS: [&str; 1] = ["lists of 1000"];
+
+    /// Sequences of a work, and lists and their nodes.
+    const SEQUENCES: usize = 200;
+    const COUNT: usize = 20;
+    const NODES: usize = 1_000;
+
+    /// A line for each call and each of its works.
+    pub fn table(calls: &[&str]) {
+        for call in calls {
+            for work in works(call) {
+                println!("{call:<16} {work:<16} {:>10.1}", counted(call, work));
+            }
+        }
+    }
+
+    fn works(call: &str) -> &'static [&'static str] {
+        match call {
+            "x87_check" | "x87_evaluate" => &LISTS,
+            _ => &WORKS,
+        }
+    }
+
+    /// Instructions a unit, counted in a process of its own.
+    fn counted(call: &str, work: &str) -> f64 {
+        let own = std::env::current_exe().expect("this program has a path");
+        let run = Command::new("valgrind")
+            .args(["--tool=callgrind", "--callgrind-out-file=/dev/null"])
+            .arg(format!("--toggle-collect={call}"))
+            .arg(own)
+            .args([call, work])
+            .output()
+            .expect("valgrind runs");
+        assert!(run.status.success(), "{run:?}");
+        let told = String::from_utf8(run.stderr).expect("text");
+        let count = told.lines().find_map(|l| l.split_once("Collected : "));
+        let count: f64 = count.expect("a count").1.parse().expect("a number");
+        let units = String::from_utf8(run.stdout).expect("text");
+        count / units.trim().parse::<f64>().expect("a number")
+    }
+
+    /// Make the calls, and print their units.
+    pub fn make(call: &str, work: &str) {
+        let units = match WORKS.iter().position(|&w| w == work) {
+            Some(number) => on_sequences(call, &sequences(number, SEQUENCES)),
+            None => on_lists(call),
+        };
+        println!("{units}");
+    }
+
+    fn on_sequences(call: &str, sequences: &[Vec<Instruction>]) -> usize {
+        let flats = sequences.iter().map(|s| s.iter().map(Instruction::to_flat));
+        let flats: Vec<Vec<[u8; FLAT]>> = flats.map(Iterator::collect).collect();
+        let records = sequences
+            .iter()
+            .map(|s| s.iter().flat_map(plain::record).collect());
+        let records: Vec<Vec<u8>> = records.collect();
+        match call {
+            "x87_lift" => Lists::default().lift_all(&flats),
+            "x87_lift_record" => Lists::default().lift_records(&records),
+            "x87_read_record" => records.iter().for_each(|input| read(input)),
+            _ => flats.iter().flatten().for_each(|flat| of_flat(call, flat)),
+        }
+        sequences.iter().map(Vec::len).sum()
+    }
+
+    /// Read an input's records one after the other.
+    fn read(input: &[u8]) {
+        let mut at = 0;
+        while at < input.len() {
+            let (mut flat, mut told) = ([0; FLAT], [0; READ]);
+            let answer = sleetgate_sys::read_record(black_box(input), at, &mut flat, &mut told);
+            assert_eq!((answer, told[1]), (0, 1));
+            at = usize::try_from(told[0]).expect("a place");
+        }
+    }
+
+    fn of_flat(call: &str, flat: &[u8; FLAT]) {
+        let answer = match call {
+            "x87_classify" => sleetgate_sys::classify(black_box(flat), &mut [0; FORM]),
+            "x87_effect" => sleetgate_sys::effect(black_box(flat), &mut [0; EFFECT]),
+            _ => panic!("no such call: {call}"),
+        };
+        assert_eq!(answer, 0);
+    }
+
+    fn on_lists(call: &str) -> usize {
+        let mut rng = Rng::new(87);
+        for _ in 0..COUNT {
+            let list = random(&mut rng, NODES).first(NODES);
+            let given = list.given(&mut rng);
+            let (mut column, mut out) = (vec![0; given.len()], [0; NAMED]);
+            let nodes = black_box(&list.nodes);
+            let answer = match call {
+                "x87_check" => sleetgate_sys::check(nodes, list.len(), &mut out),
+                _ => sleetgate_sys::evaluate(nodes, list.len(), &given, &mut column, &mut out),
+            };
+            assert_eq!((answer, out), (0, [0]));
+        }
+        COUNT * NODES
+    }
+}
