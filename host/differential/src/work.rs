@@ -38,7 +38,7 @@ pub const WORKS: [&str; 14] = [
     "mixed, long",
 ];
 
-/// Instructions of a sequence.
+/// Instructions of a sequence; one of a single form may have fewer.
 const SHORT: usize = 8;
 const LONG: usize = 48;
 
@@ -58,7 +58,8 @@ pub fn sequences(work: usize, count: usize) -> Vec<Vec<Instruction>> {
     (0..count).map(one).collect()
 }
 
-/// A sequence of one form.
+/// A sequence of one form; it ends early where its next push would
+/// overflow.
 fn family(rng: &mut Rng, form: u64) -> Vec<Instruction> {
     let style = Style {
         odd: false,
@@ -180,6 +181,34 @@ impl Lists {
                 at = self.lift_record(black_box(input), at, &mut state);
             }
             black_box(&state);
+        }
+    }
+}
+
+#[cfg(test)]
+mod tests {
+    use super::*;
+
+    /// A work is of its own form, and is the same each time it is made.
+    #[test]
+    fn a_work_is_what_its_name_says() {
+        for (work, name) in WORKS.into_iter().enumerate() {
+            let made = sequences(work, 20);
+            assert_eq!(made, sequences(work, 20), "{name}");
+            for sequence in made {
+                match name {
+                    "mixed, short" => assert_eq!(sequence.len(), SHORT),
+                    "mixed, long" => assert_eq!(sequence.len(), LONG),
+                    _ => assert!((1..=SHORT).contains(&sequence.len()), "{name}"),
+                }
+                for insn in sequence {
+                    let form = classify(&insn).expect("modelled")[0];
+                    assert!(
+                        name.starts_with("mixed") || form == 1 + work as u64,
+                        "{name}"
+                    );
+                }
+            }
         }
     }
 }

@@ -90,6 +90,7 @@ mod counted {
         let told = String::from_utf8(run.stderr).expect("text");
         let count = told.lines().find_map(|l| l.split_once("Collected : "));
         let count: f64 = count.expect("a count").1.parse().expect("a number");
+        assert!(count > 0.0, "callgrind has not seen {call}");
         let units = String::from_utf8(run.stdout).expect("text");
         count / units.trim().parse::<f64>().expect("a number")
     }
@@ -98,7 +99,8 @@ mod counted {
     pub fn make(call: &str, work: &str) {
         let units = match WORKS.iter().position(|&w| w == work) {
             Some(number) => on_sequences(call, &sequences(number, SEQUENCES)),
-            None => on_lists(call),
+            None if LISTS.contains(&work) => on_lists(call),
+            None => panic!("no such work: {work}"),
         };
         println!("{units}");
     }
@@ -148,7 +150,10 @@ mod counted {
             let nodes = black_box(&list.nodes);
             let answer = match call {
                 "x87_check" => sleetgate_sys::check(nodes, list.len(), &mut out),
-                _ => sleetgate_sys::evaluate(nodes, list.len(), &given, &mut column, &mut out),
+                "x87_evaluate" => {
+                    sleetgate_sys::evaluate(nodes, list.len(), &given, &mut column, &mut out)
+                }
+                _ => panic!("no call on lists: {call}"),
             };
             assert_eq!((answer, out), (0, [0]));
         }
