@@ -1,0 +1,58 @@
+//! The program `x87lift`, run as a process.
+
+use std::env;
+use std::io::{self, ErrorKind, Write};
+use std::path::{Path, PathBuf};
+use std::process::{Command, Stdio};
+
+/// The environment variable that names the program.
+const VARIABLE: &str = "SLEETGATE_X87LIFT";
+
+/// From this crate to the program, where the variable does not say
+/// otherwise.
+const DEFAULT: &str = "../../../target/bin/x87lift";
+
+/// What is said where the program is not there.
+pub const MISSING: &str = "the program x87lift is not there; build it by: rt check x87lift";
+
+/// The program, by its path.
+#[derive(Debug, Clone)]
+pub struct Program(PathBuf);
+
+impl Program {
+    /// The program, if it is built.
+    #[must_use]
+    pub fn at_hand() -> Option<Self> {
+        let path = env::var_os(VARIABLE).map_or_else(
+            || Path::new(env!("CARGO_MANIFEST_DIR")).join(DEFAULT),
+            PathBuf::from,
+        );
+        path.is_file().then_some(Self(path))
+    }
+
+    /// What it writes for an input.
+    ///
+    /// # Errors
+    /// Where it cannot be run, ends with a status other than 0, or writes
+    /// to standard error.
+    pub fn listing(&self, input: &[u8]) -> io::Result<Vec<u8>> {
+        let mut child = Command::new(&self.0)
+            .stdin(Stdio::piped())
+            .stdout(Stdio::piped())
+            .stderr(Stdio::piped())
+            .spawn()?;
+        if let Some(mut stdin) = child.stdin.take() {
+            match stdin.write_all(input) {
+                // It reads no more than it needs to refuse a long input.
+                Err(e) if e.kind() == ErrorKind::BrokenPipe => {}
+                written => written?,
+            }
+        }
+        let done = child.wait_with_output()?;
+        if !done.status.success() || !done.stderr.is_empty() {
+            let said = String::from_utf8_lossy(&done.stderr).into_owned();
+            return Err(io::Error::other(format!("{}: {said}", done.status)));
+        }
+        Ok(done.stdout)
+    }
+}

@@ -1,0 +1,1 @@
+//! What the tools show, of the tour and of the cases: see the tests.

@@ -1,0 +1,98 @@
+//! The tour: from the stored disassembly to the stored formulas.
+
+use std::fs;
+use std::io::Write as _;
+use std::path::Path;
+
+use program::{MISSING, Program};
+use x87rec::{Options, translate};
+use x87show::{Names, show};
+
+fn stored(name: &str) -> String {
+    let path = Path::new(env!("CARGO_MANIFEST_DIR"))
+        .join("../../tools/tour")
+        .join(name);
+    fs::read_to_string(path).expect("the file is there")
+}
+
+/// Past the test harness's capture.
+fn left_out(why: &str) {
+    // A line that cannot be written is no reason to fail.
+    let _ = writeln!(std::io::stderr(), "left out: {why}");
+}
+
+/// The ways through the filter, as they are asked for.
+fn ways() -> [(&'static str, Options); 3] {
+    let path = |taken: &[u64]| Options {
+        path: Some(taken.to_vec()),
+        ..Options::default()
+    };
+    let function = Options {
+        function: Some("tilt_step".to_owned()),
+        ..Options::default()
+    };
+    [
+        ("--path --take 804902e", path(&[0x0804_902e])),
+        ("--path", path(&[])),
+        ("--function tilt_step", function),
+    ]
+}
+
+/// What `run.sh` prints, of a disassembly.
+fn told(program: &Program, objdump: &str) -> String {
+    let told = ways().map(|(words, options)| {
+        let records = translate(objdump, &options).expect("the disassembly is read");
+        let listing = program.listing(&records.bytes()).expect("the program runs");
+        let listing = String::from_utf8(listing).expect("a listing is text");
+        let text = show(&listing, &Names::read(&records.names)).expect("it is a listing");
+        format!(
+            "$ x87rec {words} --names names < filter.objdump | x87lift | x87show --names names\n{text}"
+        )
+    });
+    told.join("\n")
+}
+
+#[test]
+fn the_tour_is_as_stored() {
+    let Some(program) = Program::at_hand() else {
+        left_out(MISSING);
+        return;
+    };
+    assert_eq!(
+        told(&program, &stored("filter.objdump")),
+        stored("expected.txt")
+    );
+}
+
+/// A filter that restarts without `fprem` would tell something else, and
+/// so would another order of its operands.
+#[test]
+fn another_filter_has_another_tour() {
+    let Some(program) = Program::at_hand() else {
+        left_out(MISSING);
+        return;
+    };
+    let filter = stored("filter.objdump");
+    for (from, to) in [
+        ("\tfprem\n", "\tfabs\n"),
+        ("\tfsub   st,st(1)\n", "\tfsubr  st,st(1)\n"),
+        ("fstp   DWORD PTR [edx+0x4]", "fstp   DWORD PTR [edx+0x8]"),
+        ("jmp    8049045", "jmp    8049047"),
+    ] {
+        let other = filter.replace(from, to);
+        assert_ne!(other, filter, "{from}");
+        assert_ne!(told(&program, &other), stored("expected.txt"), "{from}");
+    }
+}
+
+/// Where the filter restarts, the stored formulas reach no sample.
+#[test]
+fn the_stack_is_forgotten_at_the_restart() {
+    let expected = stored("expected.txt");
+    let restart = expected.split("$ x87rec ").nth(2).expect("the second way");
+    let (_, behind) = restart.split_once("fprem: not modelled").expect("a gap");
+    assert!(behind.contains("[edx] := f32(in0)\n"), "{behind}");
+    for loaded in ["s1", "s2", "m0", "m1", "m2", "t1"] {
+        assert!(!behind.contains(loaded), "{loaded} in {behind}");
+    }
+}

@@ -1,0 +1,56 @@
+//! Links the static library of the proved crates, where it is built.
+
+use std::env;
+use std::fs;
+use std::path::{Path, PathBuf};
+
+/// The environment variable that names the library.
+const VARIABLE: &str = "SLEETGATE_LIB";
+
+/// From this crate to the library, where the variable does not say
+/// otherwise.
+const DEFAULT: &str = "../../../target/staticlib/libexport.a";
+
+fn main() {
+    println!("cargo::rustc-check-cfg=cfg(no_library, no_lift)");
+    println!("cargo::rerun-if-env-changed={VARIABLE}");
+    let path = library();
+    println!("cargo::rerun-if-changed={}", path.display());
+    match fs::read(&path) {
+        Ok(archive) => link(&path, &archive),
+        Err(_) => println!("cargo::rustc-cfg=no_library"),
+    }
+}
+
+fn library() -> PathBuf {
+    env::var_os(VARIABLE).map_or_else(
+        || {
+            let here = env::var("CARGO_MANIFEST_DIR").expect("cargo sets it");
+            Path::new(&here).join(DEFAULT)
+        },
+        PathBuf::from,
+    )
+}
+
+fn link(path: &Path, archive: &[u8]) {
+    let stem = path.file_stem().and_then(|s| s.to_str());
+    let name = stem
+        .and_then(|s| s.strip_prefix("lib"))
+        .expect("a library is named lib*.a");
+    let folder = path.canonicalize().expect("it was just read");
+    let folder = folder.parent().expect("a file stands in a folder");
+    println!("cargo::rustc-link-search=native={}", folder.display());
+    println!("cargo::rustc-link-lib=static={name}");
+    if !defines(archive, b"x87_lift") {
+        println!("cargo::rustc-cfg=no_lift");
+    }
+}
+
+/// Whether the archive's index of symbols names this one: its names lie
+/// there one after the other, each ended by a zero byte.
+fn defines(archive: &[u8], name: &[u8]) -> bool {
+    let mut whole = vec![0];
+    whole.extend(name);
+    whole.push(0);
+    archive.windows(whole.len()).any(|w| w == whole)
+}
