@@ -3,7 +3,7 @@
 use std::fmt::Write;
 use std::slice::Iter;
 
-use sleetgate::Statement;
+use sleetgate::{Statement, Why};
 
 use crate::build::{Built, Read, build, flag_name};
 use crate::listing::{Listing, named};
@@ -147,7 +147,7 @@ impl Page<'_> {
         }
     }
 
-    fn declined(&mut self, answer: u64, address: u64) -> String {
+    fn declined(&mut self, answer: Why, address: u64) -> String {
         if self.names.is_entry(address) && !self.entered.contains(&address) {
             self.entered.push(address);
             return format!(
@@ -155,11 +155,7 @@ impl Page<'_> {
             );
         }
         let instruction = self.names.instruction(address);
-        let why = match answer {
-            1 => "not modelled",
-            _ => "pushes onto a full stack",
-        };
-        format!("-- {instruction}: {why}, the stack is forgotten here")
+        format!("-- {instruction}: {answer}, the stack is forgotten here")
     }
 
     fn stack(&mut self, stack: &[u64]) {
