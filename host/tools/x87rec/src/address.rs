@@ -69,7 +69,13 @@ pub fn address(text: &str) -> Option<Address> {
         offset: 0,
     };
     for (term, negative) in terms(&inner) {
-        if let Some((register, scale)) = term.split_once('*') {
+        if let Some((one, other)) = term.split_once('*') {
+            // LLVM writes the scale first.
+            let (register, scale) = if is_general(other) {
+                (other, one)
+            } else {
+                (one, other)
+            };
             let scale = immediate(scale).filter(|_| !negative && is_general(register))?;
             sum.registers.push((register.to_owned(), scale));
         } else if is_general(term) {

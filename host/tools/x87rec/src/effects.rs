@@ -4,6 +4,26 @@ use crate::line::Code;
 use crate::names::{RAX, RCX, RDI, RDX, RSI};
 use crate::passing::passes;
 
+/// The x87 instructions: those that the lifter models, and the others.
+const X87: [&str; 103] = [
+    "fabs", "fadd", "faddp", "fchs", "fcmovb", "fcmovbe", "fcmove", "fcmovnb", "fcmovnbe",
+    "fcmovne", "fcmovnu", "fcmovu", "fcom", "fcomi", "fcomip", "fcomp", "fcompi", "fcompp", "fdiv",
+    "fdivp", "fdivr", "fdivrp", "fiadd", "ficom", "ficomp", "fidiv", "fidivr", "fild", "fimul",
+    "fist", "fistp", "fisttp", "fisub", "fisubr", "fld", "fld1", "fldz", "fmul", "fmulp", "fnstsw",
+    "frndint", "fsqrt", "fst", "fstp", "fstsw", "fsub", "fsubp", "fsubr", "fsubrp", "fucom",
+    "fucomi", "fucomip", "fucomp", "fucompi", "fucompp", "fxch", "f2xm1", "fbld", "fbstp", "fclex",
+    "fcos", "fdecstp", "fdisi", "feni", "ffree", "ffreep", "fincstp", "finit", "fldcw", "fldenv",
+    "fldl2e", "fldl2t", "fldlg2", "fldln2", "fldpi", "fnclex", "fndisi", "fneni", "fninit", "fnop",
+    "fnsave", "fnstcw", "fnstenv", "fpatan", "fprem", "fprem1", "fptan", "frstor", "fsave",
+    "fscale", "fsetpm", "fsin", "fsincos", "fstcw", "fstenv", "ftst", "fwait", "fxam", "fxrstor",
+    "fxsave", "fxtract", "fyl2x", "fyl2xp1",
+];
+
+/// Whether this is the name of an x87 instruction.
+pub fn is_x87(name: &str) -> bool {
+    X87.contains(&name) || name == "wait"
+}
+
 /// How many flags are followed: CF, PF and ZF.
 pub const FLAGS: usize = 3;
 
@@ -77,10 +97,10 @@ const MOVES: [(&str, [bool; FLAGS]); 8] = [
 /// Which of CF, PF and ZF an instruction may write.
 pub fn flags(code: &Code) -> [bool; FLAGS] {
     let name = code.name.as_str();
-    if name.starts_with('f') {
+    if is_x87(name) {
         return [FLAG_COMPARES.contains(&name); FLAGS];
     }
-    if !passes(name, &code.operands) && !code.is_return() && name != "jmp" && name != "wait" {
+    if !passes(name, &code.operands) && !code.is_return() && name != "jmp" {
         return [true; FLAGS];
     }
     if FAMILIES.iter().any(|family| name.starts_with(family)) || NO_FLAGS.contains(&name) {
@@ -114,9 +134,8 @@ pub fn reads(name: &str) -> [bool; FLAGS] {
 /// Whether an instruction may write the condition codes.
 pub fn writes_status(code: &Code) -> bool {
     let name = code.name.as_str();
-    let unknown = !name.starts_with('f')
+    let unknown = !is_x87(name)
         && !name.starts_with('j')
-        && name != "wait"
         && !code.is_return()
         && !passes(name, &code.operands);
     STATUS.contains(&name) || unknown

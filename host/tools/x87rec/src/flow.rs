@@ -1,7 +1,7 @@
 //! What is known of the machine before each line: along a way, or, for a
 //! whole text, along all its ways at once.
 
-use std::collections::{BTreeMap, BTreeSet, VecDeque};
+use std::collections::{BTreeMap, BTreeSet};
 
 use crate::line::{Code, Line};
 use crate::machine::{Calls, Machine, Value};
@@ -137,7 +137,11 @@ fn walked(steps: &[Step], callees: &Callees) -> Vec<Machine> {
     };
     let mut machine = Machine::entry(first.code.address);
     let mut all = Vec::new();
+    let mut visits: BTreeMap<u64, u32> = BTreeMap::new();
     for step in steps {
+        let visit = visits.entry(step.code.address).or_default();
+        *visit += 1;
+        machine.visit = *visit;
         all.push(machine.clone());
         machine.step(&step.code, callees);
     }
@@ -215,9 +219,13 @@ impl<'a> Text<'a> {
     fn behind(&self, code: &Code) -> Vec<u64> {
         let mut all = Vec::new();
         if code.is_indirect() {
-            let function = self.function(code.address);
-            let own = |line: &u64| self.function(*line) == function;
-            all.extend(self.code.keys().copied().filter(own));
+            let begin = self.function(code.address);
+            let end = self.entries.range(begin + 1..).next();
+            let lines = match end {
+                Some(&end) => self.code.range(begin..end),
+                None => self.code.range(begin..),
+            };
+            all.extend(lines.map(|(&line, _)| line));
         } else if code.name.starts_with('j') || code.name.starts_with("loop") {
             let other = |target: &u64| {
                 self.entries.contains(target) && *target != self.function(code.address)
@@ -233,49 +241,90 @@ impl<'a> Text<'a> {
     /// What is known before each line. Lines that no line leads to are
     /// taken as entries, and lead to no line that others lead to.
     fn solve(&self, callees: &Callees) -> BTreeMap<u64, Machine> {
-        let mut known = BTreeMap::new();
-        self.spread(&self.entries, callees, &mut known, &BTreeSet::new());
-        let mut closed: BTreeSet<u64> = known.keys().copied().collect();
+        let mut solver = Solver {
+            text: self,
+            callees,
+            ahead: self.ahead(),
+            entries: self.entries.clone(),
+            before: BTreeMap::new(),
+            after: BTreeMap::new(),
+            visits: BTreeMap::new(),
+            closed: BTreeSet::new(),
+        };
+        solver.run(self.entries.clone());
+        solver.closed = solver.before.keys().copied().collect();
         for &line in self.code.keys() {
-            if !closed.contains(&line) {
-                let met = self.spread(&BTreeSet::from([line]), callees, &mut known, &closed);
-                closed.extend(met);
+            if !solver.before.contains_key(&line) {
+                solver.entries.insert(line);
+                solver.run(BTreeSet::from([line]));
             }
         }
-        known
+        solver.before
     }
 
-    /// Follow these entries, but to no line that is closed; the lines that
-    /// were met.
-
-    fn spread(
-        &self,
-        entries: &BTreeSet<u64>,
-        callees: &Callees,
-        known: &mut BTreeMap<u64, Machine>,
-        closed: &BTreeSet<u64>,
-    ) -> BTreeSet<u64> {
-        let mut met = entries.clone();
-        let mut work: VecDeque<u64> = entries.iter().copied().collect();
-        known.extend(entries.iter().map(|&entry| (entry, Machine::entry(entry))));
-        while let Some(address) = work.pop_front() {
-            let code = self.code[&address];
-            let mut machine = known[&address].clone();
-            machine.step(code, callees);
-            for next in self.behind(code) {
-                if closed.contains(&next) || !self.code.contains_key(&next) {
-                    continue;
-                }
-                let less = match known.get_mut(&next) {
-                    Some(old) => old.meet(&machine, next),
-                    None => known.insert(next, machine.clone()).is_none(),
-                };
-                met.insert(next);
-                if less && !work.contains(&next) {
-                    work.push_back(next);
-                }
-            }
+    /// The lines that may come before each.
+    fn ahead(&self) -> BTreeMap<u64, Vec<u64>> {
+        let mut ahead: BTreeMap<u64, Vec<u64>> = BTreeMap::new();
+        let steps = self.code.iter().flat_map(|(&line, code)| {
+            let behind = self.behind(code).into_iter();
+            behind.map(move |next| (line, next))
+        });
+        for (line, next) in steps {
+            ahead.entry(next).or_default().push(line);
         }
-        met
+        ahead
+    }
+}
+
+/// After so many visits of a line, what is known there only shrinks.
+const MANY: u32 = 32;
+
+/// A search for what is known before each line.
+struct Solver<'a> {
+    text: &'a Text<'a>,
+    callees: &'a Callees,
+    ahead: BTreeMap<u64, Vec<u64>>,
+    entries: BTreeSet<u64>,
+    before: BTreeMap<u64, Machine>,
+    after: BTreeMap<u64, Machine>,
+    visits: BTreeMap<u64, u32>,
+    /// Lines that are done.
+    closed: BTreeSet<u64>,
+}
+
+impl Solver<'_> {
+    /// Go on from these lines as far as anything changes.
+    fn run(&mut self, mut work: BTreeSet<u64>) {
+        while let Some(line) = work.pop_first() {
+            let machine = self.coming(line);
+            if self.before.get(&line) == Some(&machine) {
+                continue;
+            }
+            let code = self.text.code[&line];
+            let mut behind = machine.clone();
+            behind.step(code, self.callees);
+            self.before.insert(line, machine);
+            self.after.insert(line, behind);
+            let next = self.text.behind(code).into_iter();
+            let open =
+                |next: &u64| self.text.code.contains_key(next) && !self.closed.contains(next);
+            work.extend(next.filter(open));
+        }
+    }
+
+    /// What is known on coming to a line from all lines before it.
+    fn coming(&mut self, line: u64) -> Machine {
+        let visits = self.visits.entry(line).or_default();
+        *visits += 1;
+        let old = self.before.get(&line).filter(|_| *visits > MANY);
+        let entry = self.entries.contains(&line).then(|| Machine::entry(line));
+        let ahead = self.ahead.get(&line).into_iter().flatten();
+        let ways = ahead.filter_map(|ahead| self.after.get(ahead)).cloned();
+        let mut ways = entry.into_iter().chain(ways).chain(old.cloned());
+        let mut machine = ways.next().unwrap_or_else(|| Machine::entry(line));
+        for way in ways {
+            machine.meet(&way, line);
+        }
+        machine
     }
 }

@@ -50,6 +50,8 @@ struct Stored {
 /// What is known at a line.
 #[derive(Debug, Clone, PartialEq, Eq)]
 pub struct Machine {
+    /// How often a way came to the line, this time included.
+    pub visit: u32,
     registers: [Register; REGISTERS],
     memory: BTreeMap<Place, Stored>,
     /// Whether an address on the stack was handed out, so that any store
@@ -82,6 +84,7 @@ impl Machine {
         }; REGISTERS];
         registers[RSP].value = Value::Stack(version, 0);
         Self {
+            visit: 1,
             registers,
             memory: BTreeMap::new(),
             escaped: false,
@@ -98,10 +101,8 @@ impl Machine {
         self.registers[RSP].value
     }
 
-    /// What is known on coming to an address, this way or another; whether
-    /// less is known now.
-    pub fn meet(&mut self, other: &Self, address: u64) -> bool {
-        let before = self.clone();
+    /// What is known on coming to an address, this way or another.
+    pub fn meet(&mut self, other: &Self, address: u64) {
         let here = Version::At(address);
         for (number, (mine, other)) in self.registers.iter_mut().zip(&other.registers).enumerate() {
             if mine != other {
@@ -128,7 +129,6 @@ impl Machine {
             *mine = met(*mine, *other);
         }
         self.status = met(self.status, other.status);
-        *self != before
     }
 
     /// The place of a memory operand, as it is now.
@@ -183,7 +183,7 @@ impl Machine {
             }
             "mov" | "movzx" | "lea" => self.moves(code),
             "add" | "sub" | "or" | "and" | "xor" => self.computes(code),
-            name if name.starts_with('f') || name == "wait" => self.x87(code),
+            name if effects::is_x87(name) => self.x87(code),
             name if passes(name, &code.operands) => self.writes(code),
             _ if code.is_return() || code.name.starts_with('j') => {}
             _ => self.anything(code),
@@ -247,7 +247,7 @@ impl Machine {
     fn settle(&mut self, at: u64) {
         let pointer = &mut self.registers[RSP];
         if !matches!(pointer.value, Value::Stack(..)) {
-            pointer.value = Value::Stack(Version::Behind(at), 0);
+            pointer.value = Value::Stack(Version::Behind(at, self.visit), 0);
         }
     }
 
@@ -486,7 +486,7 @@ impl Machine {
     fn set(&mut self, number: usize, value: Value, at: u64) {
         self.registers[number] = Register {
             value,
-            version: Version::Behind(at),
+            version: Version::Behind(at, self.visit),
         };
         self.settle(at);
     }
@@ -526,7 +526,7 @@ impl Machine {
             stored.crossed = stored.crossed.or(Some(at));
             apart
         });
-        if let Some(place) = place.filter(|_| value != Value::Unknown) {
+        if let Some(place) = place.filter(|_| is_worth_keeping(value, bytes)) {
             let stored = Stored {
                 bytes,
                 value,
@@ -561,6 +561,16 @@ impl Machine {
         if !effects::keeps_control(code) {
             self.load_control(Word::UNKNOWN, code.address, None);
         }
+    }
+}
+
+/// Whether a stored value may matter: an address on the stack, or what may
+/// be a control word. A constant of another size is none.
+fn is_worth_keeping(value: Value, bytes: i64) -> bool {
+    match value {
+        Value::Unknown => false,
+        Value::Word(word) => word != Word::UNKNOWN && (bytes == 2 || word.is_constant().is_none()),
+        Value::Stack(..) => true,
     }
 }
 

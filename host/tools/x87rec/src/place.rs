@@ -10,8 +10,9 @@ use crate::line::{Code, Relocation};
 pub enum Version {
     /// The one on entry to the code that begins at this address.
     Entry(u64),
-    /// The one that the instruction at this address left.
-    Behind(u64),
+    /// The one that the instruction at this address left, at this visit
+    /// of it on a way.
+    Behind(u64, u32),
     /// The one on coming to this address, by whichever way.
     At(u64),
 }
@@ -88,7 +89,8 @@ impl fmt::Display for Version {
     fn fmt(&self, f: &mut fmt::Formatter<'_>) -> fmt::Result {
         match self {
             Self::Entry(_) => Ok(()),
-            Self::Behind(address) => write!(f, "@{address:x}"),
+            Self::Behind(address, 1) => write!(f, "@{address:x}"),
+            Self::Behind(address, visit) => write!(f, "@{address:x}#{visit}"),
             Self::At(address) => write!(f, "@@{address:x}"),
         }
     }

@@ -6,7 +6,7 @@ use notes::{Event, Notes, Record, What};
 use sleetgate::{Instruction, write_record};
 
 use crate::control::{Verdict, loaded, verdict};
-use crate::effects::{FLAG_COMPARES, FLAG_NAMES, reads, reads_status};
+use crate::effects::{FLAG_COMPARES, FLAG_NAMES, is_x87, reads, reads_status};
 use crate::flow::Callees;
 use crate::line::Code;
 use crate::machine::{Calls, Machine, Writer};
@@ -186,7 +186,7 @@ impl<'a> Work<'a> {
             .unwrap_or("the instruction");
         if compares.contains(&name) {
             format!("as {name} at {address:x} wrote it")
-        } else if name.starts_with('f') || name == "call" {
+        } else if is_x87(name) || name == "call" {
             format!("as {name} at {address:x} left it: not modelled")
         } else {
             format!("as {name} at {address:x} wrote it: integer code")
@@ -304,8 +304,8 @@ impl<'a> Work<'a> {
         }
         if addresses.iter().any(|text| text.contains('@')) {
             head.push(
-                "a register @ an address is as the instruction there left it, @@ as it is on \
-                 coming there"
+                "a register @ an address is as the instruction there left it, #2 at its second \
+                 turn; @@ as it is on coming there"
                     .to_owned(),
             );
         }

@@ -1,32 +1,23 @@
 //! Texts and the records that they become.
 
-use sleetgate::{Instruction, Item, Operand, Place, read_record};
-use x87rec::{Options, Translated, Wrong, passes, translate};
+mod common;
 
-fn records(text: &str) -> Translated {
-    translate(text, &Options::default()).expect("the text is right")
-}
-
-fn named(translated: &Translated) -> Vec<String> {
-    let name = |insn: &Instruction| insn.mnemonic.clone();
-    translated.instructions.iter().map(name).collect()
-}
+use common::{instructions, named, places, records, with};
+use sleetgate::{Item, Operand, Place, read_record};
+use x87rec::{Options, Wrong, passes, translate};
 
 fn operands(line: &str) -> Vec<Operand> {
     let translated = records(&format!("10 {line}\n"));
-    translated.instructions[0].operands.clone()
+    instructions(&translated).remove(0).operands
 }
 
 fn at_slot(width: u16, address: u32, slot: u32) -> Operand {
     Operand::memory(width, Place::Slot { address, slot })
 }
 
-/// Where an instruction's first operand is.
-fn place(insn: &Instruction) -> Place {
-    match insn.operands[0] {
-        Operand::Memory { place, .. } => place,
-        _ => panic!("{insn:?} has memory first"),
-    }
+fn wrong(text: &str) -> Wrong {
+    let translated = translate(text, &Options::default());
+    translated.map(|_| ()).expect_err("it is wrong")
 }
 
 const OBJDUMP: &str = "
@@ -59,7 +50,7 @@ fn objdumps_text_becomes_records() {
     // The jump's target begins anew; after `ret` that needs no record.
     let names = ["fld", "faddp", "entry", "fld", "fld", "ret", "fldz", "ret"];
     assert_eq!(named(&translated), names);
-    let insn = &translated.instructions;
+    let insn = instructions(&translated);
     assert_eq!(insn[0].operands, [at_slot(32, 1, 1)]);
     assert_eq!(insn[1].operands, ["st(1)", "st(0)"].map(Operand::register));
     assert_eq!((insn[2].address, insn[3].address), (0x1147, 0x1147));
@@ -69,50 +60,48 @@ fn objdumps_text_becomes_records() {
         translated.to_string(),
         "11 instructions, 8 records, 1 of them for entries; passed over: cmp 1, je 1, mov 1, push 1"
     );
-    let known = "a 1 [ebp+0x8]\na 2 [0x2008]\na 3 [eax+ebx*4+0x10]\ni 4409 push ebp\n";
-    assert!(translated.names.starts_with(known), "{}", translated.names);
-    assert!(translated.names.contains("\ni 4421 faddp st(1), st\n"));
-    assert!(translated.names.ends_with("\ni 4450 ret\ne 4423\n"));
+    assert_eq!(
+        places(&translated),
+        ["[esp0+0x4]", "[0x2008]", "[eax+ebx*4+0x10]"]
+    );
+    let texts: Vec<&str> = translated
+        .notes
+        .records()
+        .map(|(_, r)| r.text.as_str())
+        .collect();
+    assert_eq!(texts[1], "faddp st(1), st");
 }
 
 #[test]
 fn one_function_can_be_taken() {
+    let text = OBJDUMP.replace("<g>", "<g@@Base>") + "\n00001170 <h@V1>:\n1170: fld1\n";
     let wanted = |name: &str| {
         let options = Options {
             function: Some(name.to_owned()),
             ..Options::default()
         };
-        translate(OBJDUMP, &options)
+        translate(&text, &options)
     };
-    assert_eq!(named(&wanted("g").expect("it is there")), ["fldz", "ret"]);
+    for name in ["g", "g@@Base", "0x1160"] {
+        assert_eq!(named(&wanted(name).expect(name)), ["fldz", "ret"]);
+    }
+    assert_eq!(named(&wanted("h").expect("it is there")), ["fld1"]);
     assert_eq!(named(&wanted("f").expect("it is there"))[2], "entry");
-    let why = wanted("h").expect_err("it is not there").to_string();
-    assert_eq!(why, "there is no function `h`");
-}
-
-#[test]
-fn one_way_can_be_followed() {
-    let text = "0 fld1\n2 je 8\n4 fchs\n6 jmp a\n8 fabs\na fstp st(0)\nc jmp 2\n";
-    let way = |taken: &[u64]| {
-        let options = Options {
-            path: Some(taken.to_vec()),
-            ..Options::default()
-        };
-        translate(text, &options)
-    };
-    let named_on = |taken: &[u64]| named(&way(taken).expect("the text is right"));
-    assert_eq!(named_on(&[]), ["fld1", "fchs", "fstp"]);
-    assert_eq!(named_on(&[2]), ["fld1", "fabs", "fstp"]);
-    let why = way(&[4, 8]).expect_err("it is not on the way").to_string();
-    assert_eq!(why, "the way does not come to 8");
-    let path = Options {
-        path: Some(Vec::new()),
+    let why = wanted("gg").expect_err("it is not there").to_string();
+    assert_eq!(
+        why,
+        "there is no function `gg`; the nearest names are g, f, h"
+    );
+    let twice = text.clone() + "\n00001180 <h@V2>:\n1180: fldz\n";
+    let options = Options {
+        function: Some("h".to_owned()),
         ..Options::default()
     };
-    let returned = translate("8 fld1\na ret\n0 fchs\n", &path).expect("the text is right");
-    assert_eq!(named(&returned), ["fld1"]);
-    let twice = translate("8 fld1\n8 fchs\n", &path).expect_err("it is wrong");
-    assert_eq!(twice.to_string(), "line 2: 8 stands there twice");
+    let why = translate(&twice, &options)
+        .expect_err("which one?")
+        .to_string();
+    let expected = "`h` stands there 2 times: say which by its address, of 0x1170, 0x1180";
+    assert_eq!(why, expected);
 }
 
 #[test]
@@ -121,8 +110,8 @@ fn every_instruction_can_become_a_record() {
         every: true,
         ..Options::default()
     };
-    let translated = translate(OBJDUMP, &options).expect("the text is right");
-    assert_eq!(translated.instructions.len(), 12);
+    let translated = with(OBJDUMP, &options);
+    assert_eq!(instructions(&translated).len(), 12);
     assert!(translated.passed.is_empty());
 }
 
@@ -130,11 +119,11 @@ fn every_instruction_can_become_a_record() {
 fn the_bytes_are_read_back() {
     let translated = records(OBJDUMP);
     let (bytes, mut at) = (translated.bytes(), 0);
-    for insn in &translated.instructions {
+    for insn in instructions(&translated) {
         let Ok(Item::Record { insn: got, next }) = read_record(&bytes, at) else {
             panic!("a record stands at {at}")
         };
-        assert_eq!(got, *insn);
+        assert_eq!(got, insn);
         at = next;
     }
     assert_eq!(read_record(&bytes, at), Ok(Item::End));
@@ -145,33 +134,90 @@ fn plain_lines_are_read() {
     let text = "# a comment\n401000 fld dword [ebp-8]\n0x401003: FSTP st(1) # out\n\n";
     let translated = records(text);
     assert_eq!(named(&translated), ["fld", "fstp"]);
-    assert_eq!(translated.instructions[1].address, 0x40_1003);
+    assert_eq!(instructions(&translated)[1].address, 0x40_1003);
 }
 
 #[test]
-fn the_same_text_has_the_same_number() {
-    let text = "0 fld DWORD PTR [eax+4]\n1 fld QWORD PTR [EAX + 4]\n2 fld DWORD PTR [rbp-8]\n\
-                3 fstp DWORD PTR [ebp-8]\n4 fld DWORD PTR [rsp]\n5 fld DWORD PTR gs:0x14\n";
-    let places: Vec<Place> = records(text).instructions.iter().map(place).collect();
-    let slot = |address, slot| Place::Slot { address, slot };
+fn other_disassemblers_are_read() {
     let expected = [
-        Place::Address(1),
-        Place::Address(1),
-        slot(2, 1),
-        slot(3, 1),
-        slot(4, 2),
-        Place::Unknown,
+        (0x0804_9000, "fld", "[esp0+0x4]"),
+        (0x0804_9004, "fadd", ""),
+        (0x0804_9006, "fstp", "[eax+ecx*8-0x8]"),
     ];
-    assert_eq!(places, expected);
+    let llvm = "\n/tmp/t:\tfile format elf32-i386\n\nDisassembly of section .text:\n\n\
+                08049000 <f>:\n\
+                \x20 8049000: dd 44 24 04                  \tfld\tqword ptr [esp + 4]\n\
+                \x20 8049004: d8 c0                        \tfadd\tst, st(0)\n\
+                \x20 8049006: dd 5c c8 f8                  \tfstp\tqword ptr [eax + 8*ecx - 8]\n";
+    let gdb = "Dump of assembler code for function f:\n\
+               \x20  0x08049000 <+0>:\tfld    QWORD PTR [esp+0x4]\n\
+               => 0x08049004 <+4>:\tfadd   st,st(0)\n\
+               \x20  0x08049006 <f+6>:\tdd 5c c8 f8\tfstp   QWORD PTR [eax+ecx*8-0x8]\n\
+               End of assembler dump.\n";
+    let blanks = "08049000 <f>:\n\
+                  \x20 8049000:  dd 44 24 04    fld    QWORD PTR [esp+0x4]\n\
+                  \x20 8049004:  d8 c0          fadd   st0,st0\n\
+                  \x20 8049006:  dd 5c c8 f8    fstp   QWORD PTR [eax+ecx*8-0x8]\n";
+    for text in [llvm, gdb, blanks] {
+        let translated = records(text);
+        let read: Vec<_> = instructions(&translated)
+            .iter()
+            .map(|insn| (insn.address, insn.mnemonic.clone()))
+            .collect();
+        let names = expected.map(|(address, name, _)| (address, name.to_owned()));
+        assert_eq!(read, names, "{text}");
+        assert_eq!(
+            places(&translated),
+            [expected[0].2, expected[2].2],
+            "{text}"
+        );
+        let sum = &instructions(&translated)[1].operands;
+        assert_eq!(
+            *sum,
+            [Operand::register("st(0)"), Operand::register("st(0)")]
+        );
+    }
 }
 
 #[test]
-fn addresses_behind_rip_are_objdumps() {
-    let text = "0 fld QWORD PTR [rip+0x10]        # 4010 <x>\n\
-                6 fld QWORD PTR [rip+0xa]        # 4010 <x>\n\
-                c fld QWORD PTR [rip+0xa]\n12 fld QWORD PTR [rip+0xa]\n";
-    let places: Vec<Place> = records(text).instructions.iter().map(place).collect();
-    assert_eq!(places, [1, 1, 2, 3].map(Place::Address));
+fn relocations_name_their_symbols() {
+    let text = "00000000 <f>:\n\
+                \x20  0:\tdd 05 00 00 00 00    \tfld    QWORD PTR ds:0x0\n\
+                \t\t\t2: R_386_32\ta\n\
+                \x20  6:\tdc 05 08 00 00 00    \tfadd   QWORD PTR ds:0x8\n\
+                \t\t\t8: R_386_32\tb\n\
+                \x20  c:\tdc 83 00 00 00 00    \tfadd   QWORD PTR [ebx+0x0]\n\
+                \t\t\te: R_386_GOTOFF\t.LC0\n\
+                \x20 12:\te8 fc ff ff ff       \tcall   13 <f+0x13>\n\
+                \t\t\t13: R_386_PC32\tg\n\
+                \x20 17:\tc3                   \tret\n";
+    let translated = records(text);
+    assert_eq!(places(&translated), ["[a]", "[b+0x8]", "[.LC0@GOTOFF+ebx]"]);
+    let call = translated.notes.records().nth(3).expect("the call").1;
+    assert_eq!(call.text, "call g");
+    // 64-bit code counts from the next instruction.
+    let long = "0 fld QWORD PTR [rip+0x0]        # 6 <f+0x6>\n\
+                2: R_X86_64_PC32 x-0x4\n6 fld QWORD PTR [rip+0x0]\n\
+                8: R_X86_64_PC32 y+0x4\nc ret\n";
+    assert_eq!(places(&records(long)), ["[x]", "[y+0x8]"]);
+    assert_eq!(wrong("2: R_386_32 a\n").line, 1);
+}
+
+#[test]
+fn addresses_that_no_linker_put_in_are_told_apart() {
+    let text = "0 fld DWORD PTR ds:0x0\n6 fadd DWORD PTR ds:0x0\nc fadd DWORD PTR ds:0x804a000\n";
+    let told = ["[unlinked of 0]", "[unlinked of 6]", "[0x804a000]"];
+    assert_eq!(places(&records(text)), told);
+}
+
+#[test]
+fn what_is_too_long_is_refused_with_words() {
+    let lines: String = (0..1_100).map(|at| format!("{at:x} fld1\n")).collect();
+    let why = wrong(&lines).to_string();
+    assert!(
+        why.contains("x87lift takes 16384: take one function"),
+        "{why}"
+    );
 }
 
 #[test]
@@ -184,6 +230,7 @@ fn operands_have_their_kinds() {
     assert_eq!(operands("call 1030 <g(int, int)>"), [Operand::Other]);
     assert_eq!(operands("int 0x80"), [Operand::Other]);
     assert_eq!(operands("fldenv [esp]"), [at_slot(0, 1, 1)]);
+    assert_eq!(operands("fxch st3"), [Operand::register("st(3)")]);
     assert_eq!(
         operands("ds fld QWORD PTR [rax]"),
         [Operand::memory(64, Place::Unknown)]
@@ -207,7 +254,7 @@ fn what_is_not_known_to_pass_is_a_record() {
         "ret",
     ] {
         let translated = records(&format!("10 fld1\n12 {line}\n"));
-        assert_eq!(translated.instructions.len(), 2, "{line}");
+        assert_eq!(instructions(&translated).len(), 2, "{line}");
     }
     for line in [
         "mov eax,1",
@@ -219,30 +266,13 @@ fn what_is_not_known_to_pass_is_a_record() {
         "rep stos DWORD PTR es:[edi],eax",
     ] {
         let translated = records(&format!("10 fld1\n12 {line}\n"));
-        assert_eq!(translated.instructions.len(), 1, "{line}");
+        assert_eq!(instructions(&translated).len(), 1, "{line}");
     }
     assert!(!passes("fld1", &[]) && !passes("jmp", &[]));
 }
 
 #[test]
-fn an_indirect_jump_is_reported() {
-    let said = records("10 fld1\n12 notrack jmp rax\n").to_string();
-    assert!(
-        said.ends_with("; indirect jumps, targets not seen: 1"),
-        "{said}"
-    );
-}
-
-#[test]
-fn a_written_control_word_is_reported() {
-    let said = records("10 fldcw WORD PTR [esp]\n13 fistp DWORD PTR [esp]\n").to_string();
-    let expected = "; control word written, roundings behind it not known: 1";
-    assert!(said.ends_with(expected), "{said}");
-}
-
-#[test]
 fn wrong_lines_are_named() {
-    let wrong = |text: &str| translate(text, &Options::default()).expect_err("it is wrong");
     let at = |line, why: &str| Wrong {
         line,
         why: why.to_owned(),
@@ -256,10 +286,6 @@ fn wrong_lines_are_named() {
         at(2, "AT&T syntax: use objdump -d -M intel")
     );
     assert_eq!(wrong("0 fadd st,,st(1)\n"), at(1, "an empty operand"));
-    assert_eq!(
-        wrong("\t\t\t1a: R_386_PC32\tg\n"),
-        at(1, "a relocation: disassemble the linked file")
-    );
     assert_eq!(wrong("0 !x\n"), at(1, "`!x` is no name of an instruction"));
     let long = "f".repeat(33);
     assert_eq!(wrong(&format!("0 {long}\n")).line, 1);

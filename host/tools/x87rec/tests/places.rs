@@ -1,0 +1,168 @@
+//! Places of memory, and the stack pointer that they are counted from.
+
+mod common;
+
+use common::{path, places, records, remarks, with};
+
+/// The places on the way through some lines.
+fn on_way(lines: &[&str]) -> Vec<String> {
+    places(&with(&text(lines), &path(&[])))
+}
+
+fn text(lines: &[&str]) -> String {
+    let numbered = lines.iter().enumerate();
+    numbered
+        .map(|(at, line)| format!("{:x} {line}\n", 16 * at))
+        .collect()
+}
+
+#[test]
+fn one_place_on_the_stack_has_one_name() {
+    let lines = [
+        "push ebp",
+        "mov ebp,esp",
+        "sub esp,0x18",
+        "fld QWORD PTR [ebp+0x8]",
+        "fstp QWORD PTR [esp+0x8]",
+        "push eax",
+        "fld QWORD PTR [esp+0xc]",
+        "pop eax",
+        "lea ecx,[esp+0x8]",
+        "fadd QWORD PTR [ecx]",
+        "add esp,0x10",
+        "fstp QWORD PTR [esp-0x8]",
+        "leave",
+        "fld QWORD PTR [esp+0x4]",
+        "ret",
+    ];
+    let local = "[esp0-0x14]";
+    let expected = ["[esp0+0x4]", local, local, local, local, "[esp0+0x4]"];
+    assert_eq!(on_way(&lines), expected);
+}
+
+#[test]
+fn a_stack_pointer_that_is_not_known_is_one_of_its_own() {
+    let lines = [
+        "fld QWORD PTR [esp+0x4]",
+        "and esp,0xfffffff0",
+        "fstp QWORD PTR [esp+0x4]",
+        "mov esp,eax",
+        "fld QWORD PTR [esp+0x4]",
+    ];
+    assert_eq!(
+        on_way(&lines),
+        ["[esp0+0x4]", "[esp@10+0x4]", "[esp@30+0x4]"]
+    );
+}
+
+#[test]
+fn a_call_that_took_nothing_is_known_by_the_return() {
+    let calls = |add: &'static str| {
+        [
+            "sub esp,0x8",
+            "fstp QWORD PTR [esp]",
+            "push eax",
+            "call 900",
+            "fld QWORD PTR [esp+0x4]",
+            add,
+            "ret",
+        ]
+    };
+    let place = "[esp0-0x8]";
+    assert_eq!(on_way(&calls("add esp,0xc")), [place, place]);
+    // One call that takes its argument: the return tells so.
+    assert_eq!(on_way(&calls("add esp,0x8")), [place, "[esp0-0x4]"]);
+    // Nothing tells: the stack pointer is not known behind the call.
+    let told = with(&text(&calls("mov esp,ecx")), &path(&[]));
+    assert_eq!(places(&told), [place, "[esp@30+0x4]"]);
+    let words = remarks(&told);
+    let doubt = "30 call 900: may take its arguments from the stack: esp is not known behind it, \
+                 and places are counted from esp@30";
+    assert!(words.contains(&doubt.to_owned()), "{words:?}");
+    let two = [
+        "push eax",
+        "call 900",
+        "push eax",
+        "call 900",
+        "fld DWORD PTR [esp]",
+        "add esp,0x4",
+        "ret",
+    ];
+    assert_eq!(on_way(&two), ["[esp@30]"]);
+}
+
+#[test]
+fn a_call_into_the_text_takes_what_its_returns_say() {
+    let lines = "0 push eax\n2 call 20\n4 fld DWORD PTR [esp]\n6 jmp eax\n20 nop\n22 ret 0x4\n";
+    assert_eq!(places(&with(lines, &path(&[]))), ["[esp0]"]);
+    let long = "0 push rax\n2 call 900\n4 fld QWORD PTR [rsp+0x8]\n6 jmp rax\n";
+    assert_eq!(places(&with(long, &path(&[]))), ["[rsp0]"]);
+}
+
+#[test]
+fn registers_are_told_apart_where_they_changed() {
+    let changed = [
+        "fld QWORD PTR [eax]",
+        "add eax,0x8",
+        "fld QWORD PTR [eax]",
+        "fld QWORD PTR [EAX]",
+        "fld QWORD PTR [ecx+edx*8]",
+    ];
+    assert_eq!(
+        on_way(&changed),
+        ["[eax]", "[eax@10]", "[eax@10]", "[ecx+edx*8]"]
+    );
+    // Where one value alone is used, its text is that of the code.
+    let loaded = ["mov eax,DWORD PTR [esp+0x4]", "fld QWORD PTR [eax]"];
+    assert_eq!(on_way(&loaded), ["[eax]"]);
+    let called = [
+        "fld QWORD PTR [eax]",
+        "call 900",
+        "fld QWORD PTR [eax]",
+        "fld QWORD PTR [ebx]",
+    ];
+    assert_eq!(on_way(&called), ["[eax]", "[eax@10]", "[ebx]"]);
+    for line in [
+        "xchg eax,ecx",
+        "mul ecx",
+        "pop eax",
+        "lods eax,DWORD PTR ds:[esi]",
+        "cdq",
+    ] {
+        let lines = ["fld QWORD PTR [eax]", line, "fld QWORD PTR [eax]"];
+        assert_eq!(on_way(&lines), ["[eax]", "[eax@10]"], "{line}");
+    }
+    for line in [
+        "cmp eax,ecx",
+        "push eax",
+        "test eax,eax",
+        "mov ecx,eax",
+        "je 20",
+    ] {
+        let lines = ["fld QWORD PTR [eax]", line, "fld QWORD PTR [eax]"];
+        assert_eq!(on_way(&lines), ["[eax]", "[eax]"], "{line}");
+    }
+}
+
+#[test]
+fn in_a_whole_text_what_all_ways_agree_on_is_known() {
+    let text = "00000000 <f>:\n0 push eax\n2 je 8\n4 mov ecx,edx\n8 fld DWORD PTR [esp+0x8]\n\
+                a fld DWORD PTR [ecx]\nc pop eax\ne fld DWORD PTR [ecx]\n10 ret\n\
+                00000020 <g>:\n20 fld DWORD PTR [esp+0x4]\n22 loop 20\n24 ret\n";
+    let told = records(text);
+    let expected = ["[esp0+0x4]", "[ecx]", "[ecx]", "[esp0+0x4]"];
+    assert_eq!(places(&told), expected);
+    // The two functions' places are two.
+    assert_eq!(told.notes.addresses.len(), 3);
+}
+
+#[test]
+fn a_segment_or_an_odd_address_is_not_known() {
+    for line in [
+        "fld DWORD PTR gs:0x14",
+        "fld DWORD PTR [eax-ecx]",
+        "ds fld DWORD PTR [eax]",
+    ] {
+        assert_eq!(on_way(&[line]), ["unknown"], "{line}");
+    }
+}
