@@ -1,0 +1,437 @@
+//! The shown text, read from top to bottom beside a run.
+//!
+//! Each line stands for a visit of its instruction on the way that the run
+//! took. Two lines that follow each other at one address are of one visit,
+//! unless the second tells a jump's decision: between two visits of an
+//! instruction there is a conditional jump, and each has its line. A `let`
+//! may stand for an earlier instruction and moves nothing.
+//!
+//! What the text loads, or does not know, is taken from the run; what it
+//! says of stores, flags, status words, `ax` and the stack is compared.
+
+use std::collections::{BTreeMap, BTreeSet, HashMap};
+
+use crate::code::{Code, Instruction};
+use crate::formula::{self, Value};
+use crate::place;
+use crate::run::{Part, Run, Step};
+
+/// The flags and their places in the processor's word.
+const FLAGS: [(&str, u32); 5] = [("CF", 0), ("PF", 2), ("ZF", 6), ("SF", 7), ("OF", 11)];
+
+/// C0, C2 and C3 in the status word.
+const CONDITIONS: u16 = 1 << 8 | 1 << 10 | 1 << 14;
+
+/// How often each kind of line was compared, or taken from the run.
+pub type Counts = BTreeMap<&'static str, usize>;
+
+/// A run with what is needed to read a text beside it.
+#[derive(Debug, Clone, Copy)]
+pub struct Beside<'a> {
+    pub run: &'a Run,
+    /// Memory that is only read.
+    pub parts: &'a [Part],
+    pub code: &'a Code,
+    /// The steps that are in the function, in their order.
+    pub visits: &'a [usize],
+}
+
+/// Compare a text with a run.
+///
+/// # Errors
+/// The first line that is not what the machine did.
+pub fn compare(text: &str, beside: Beside, counts: &mut Counts) -> Result<(), String> {
+    let mut reading = Reading {
+        beside,
+        at: 0,
+        known: HashMap::new(),
+        written: HashMap::new(),
+        places: HashMap::new(),
+        told: BTreeSet::new(),
+        stack: 0,
+        forgotten: false,
+        counts,
+    };
+    for line in text.lines() {
+        reading.line(line).map_err(|why| format!("{line}: {why}"))?;
+    }
+    reading.finish()
+}
+
+struct Reading<'a> {
+    beside: Beside<'a>,
+    /// The visit of the line before.
+    at: usize,
+    known: HashMap<String, Value>,
+    /// What the text last said of a flag or the status word, and at which
+    /// address.
+    written: HashMap<&'a str, (u32, Value)>,
+    /// The real address of each place.
+    places: HashMap<String, u32>,
+    /// The visits that have a line.
+    told: BTreeSet<usize>,
+    /// Places of the stack that were told at the end.
+    stack: usize,
+    forgotten: bool,
+    counts: &'a mut Counts,
+}
+
+type Told = Result<(), String>;
+
+impl Reading<'_> {
+    fn line(&mut self, line: &str) -> Told {
+        if line.starts_with("--") || line.is_empty() {
+            return Ok(());
+        }
+        let (address, body) = line.split_once(": ").ok_or("no address")?;
+        let address = hexadecimal(address.trim()).ok_or("no address")?;
+        if let Some(part) = body.strip_prefix("let ") {
+            let (name, formula) = part.split_once(" = ").ok_or("no formula")?;
+            let value = self.value(formula)?;
+            self.known.insert(name.to_owned(), value);
+            return Ok(());
+        }
+        let decision = decision(body);
+        self.go_to(address, decision.is_some())?;
+        if let Some(taken) = decision {
+            return self.jump(taken);
+        }
+        if let Some(remark) = body.strip_prefix("-- ") {
+            return self.remark(remark);
+        }
+        if let Some((place, formula)) = body.split_once(" = ")
+            && place.starts_with("st(")
+        {
+            return self.stack(place, formula);
+        }
+        let (left, right) = body.split_once(" := ").ok_or("what is this?")?;
+        self.assignment(left, right)
+    }
+
+    /// Go to the visit of a line.
+    fn go_to(&mut self, address: u32, next: bool) -> Told {
+        let here = self.told.contains(&self.at);
+        let from = self.at + usize::from(next && here);
+        let visits = self.beside.visits.iter().enumerate().skip(from);
+        let step = |step: usize| &self.beside.run.steps[step];
+        let found = visits
+            .filter(|&(_, &visit)| step(visit).ip == address)
+            .map(|(at, _)| at)
+            .next();
+        self.at = found.ok_or("the run does not come here")?;
+        self.told.insert(self.at);
+        Ok(())
+    }
+
+    /// The state before the instruction of the line.
+    fn before(&self) -> &Step {
+        &self.beside.run.steps[self.beside.visits[self.at]]
+    }
+
+    /// The state behind it.
+    fn behind(&self) -> &Step {
+        self.behind_visit(self.at)
+    }
+
+    /// The state behind a visit: behind a call, that of its return.
+    fn behind_visit(&self, at: usize) -> &Step {
+        &self.beside.run.steps[self.step_behind(at)]
+    }
+
+    fn step_behind(&self, at: usize) -> usize {
+        let visits = self.beside.visits;
+        visits.get(at + 1).copied().unwrap_or(visits[at] + 1)
+    }
+
+    /// The state behind the last visit of an address, from the line's own
+    /// visit back.
+    fn behind_last(&self, address: u32) -> Result<&Step, String> {
+        let steps = &self.beside.run.steps;
+        let mut visits = self.beside.visits[..=self.at].iter();
+        let last = visits.rposition(|&visit| steps[visit].ip == address);
+        Ok(self.behind_visit(last.ok_or("the run did not come there")?))
+    }
+
+    fn instruction(&self) -> Result<&Instruction, String> {
+        let code = self.beside.code.at(self.before().ip);
+        Ok(code.ok_or("no instruction")?)
+    }
+
+    fn value(&self, formula: &str) -> Result<Value, String> {
+        formula::value(formula, &self.known)
+    }
+
+    fn count(&mut self, what: &'static str) {
+        *self.counts.entry(what).or_default() += 1;
+    }
+
+    fn jump(&mut self, told: bool) -> Told {
+        let behind = self.beside.code.behind(self.before().ip);
+        let taken = behind != Some(self.behind().ip);
+        self.count("jumps");
+        same(told, taken)
+    }
+
+    fn remark(&mut self, remark: &str) -> Told {
+        self.forgotten |= remark.contains("forgotten");
+        let Some((name, what)) = remark.split_once(" is ").filter(|(name, _)| is_input(name))
+        else {
+            return Ok(());
+        };
+        let value = if what == "the rest of the status word" {
+            Value::Bits(self.behind().status.into(), 16)
+        } else {
+            Value::Number(self.input(what)?.ok_or("an empty place of the stack")?)
+        };
+        self.count("inputs");
+        self.known.insert(name.to_owned(), value);
+        Ok(())
+    }
+
+    /// What a place of the stack held on entry, behind an instruction, or
+    /// behind this one.
+    fn input(&self, what: &str) -> Result<Option<crate::extended::Extended>, String> {
+        let place = |text: &str| place_of_stack(text).ok_or("which place?");
+        if let Some(text) = what.strip_suffix(" on entry") {
+            let entry = self.beside.visits[0];
+            return Ok(self.beside.run.steps[entry].st(place(text)?));
+        }
+        if let Some((text, address)) = what.split_once(" behind ") {
+            let address = hexadecimal(address).ok_or("behind what?")?;
+            return Ok(self.behind_last(address)?.st(place(text)?));
+        }
+        let held = what
+            .strip_prefix("what ")
+            .and_then(|what| what.split_once(" holds where "));
+        let (text, _) = held.ok_or("what is this input?")?;
+        Ok(self.behind().st(place(text)?))
+    }
+
+    fn stack(&mut self, text: &str, formula: &str) -> Told {
+        let place = place_of_stack(text).ok_or("which place?")?;
+        let told = self.value(formula)?.number()?;
+        let real = self.last().st(place).ok_or("the place is empty")?;
+        self.count("places of the stack");
+        self.stack += 1;
+        if told.is_same(real) {
+            return Ok(());
+        }
+        Err(format!("told {told:x?}, real {real:x?}"))
+    }
+
+    /// The state where the way ends.
+    fn last(&self) -> &Step {
+        self.behind_visit(self.beside.visits.len() - 1)
+    }
+
+    fn assignment(&mut self, left: &str, right: &str) -> Told {
+        if let Some(place) = left.strip_prefix('[') {
+            return self.store(place.strip_suffix(']').ok_or("no place")?, right);
+        }
+        if let Some(load) = right.strip_prefix('[') {
+            return self.load(left, load);
+        }
+        if let Some((name, how)) = right.split_once(", ")
+            && (name == "fsw" || flag(name).is_some())
+        {
+            return self.read(left, name, how);
+        }
+        if let Some(&(name, bit)) = FLAGS.iter().find(|(name, _)| *name == left) {
+            let told = self.value(right)?.truth()?;
+            self.written
+                .insert(name, (self.before().ip, Value::Truth(told)));
+            self.count("flags");
+            return same(told, self.behind().flags >> bit & 1 == 1);
+        }
+        match left {
+            "fsw" => self.status(right),
+            "ax" => self.ax(right),
+            _ => Err("what is this?".to_owned()),
+        }
+    }
+
+    fn status(&mut self, formula: &str) -> Told {
+        let value = self.value(formula)?;
+        self.written.insert("fsw", (self.before().ip, value));
+        self.count("status words");
+        same(conditions(value)?, self.behind().status & CONDITIONS)
+    }
+
+    fn ax(&mut self, formula: &str) -> Told {
+        let Value::Bits(told, 16) = self.value(formula)? else {
+            return Err("ax has 16 bits".to_owned());
+        };
+        self.count("ax");
+        same(told, u128::from(self.behind().general[0] & 0xffff))
+    }
+
+    /// A flag or the status word is read: the text says who wrote it.
+    fn read(&mut self, name: &str, what: &str, how: &str) -> Told {
+        let real = match flag(what) {
+            Some(bit) => Value::Truth(self.before().flags >> bit & 1 == 1),
+            None => Value::Bits(self.before().status.into(), 16),
+        };
+        let value = match how
+            .strip_prefix("as ")
+            .and_then(|how| how.split_once(" at "))
+        {
+            Some((writer, how)) => self.writer(what, writer, how)?.unwrap_or(real),
+            None => real,
+        };
+        self.count("flags read");
+        self.known.insert(name.to_owned(), value);
+        match (value, real) {
+            (Value::Truth(told), Value::Truth(real)) => same(told, real),
+            _ => same(conditions(value)?, conditions(real)?),
+        }
+    }
+
+    /// The value that a writer gave a flag or the status word, where the
+    /// text says it: integer code and what is not modelled leave it to the
+    /// run, which must not have changed the flag since.
+    fn writer(&self, what: &str, writer: &str, how: &str) -> Result<Option<Value>, String> {
+        let (address, how) = how.split_once(' ').ok_or("who wrote it?")?;
+        let address = hexadecimal(address).ok_or("who wrote it?")?;
+        let code = self.beside.code.at(address).ok_or("no such instruction")?;
+        if code.name != writer {
+            return Err(format!("{} stands at {address:x}", code.name));
+        }
+        let behind = self.behind_last(address)?;
+        if how == "wrote it" {
+            let written = self.written.get(what).filter(|(by, _)| *by == address);
+            let (_, value) = written.ok_or("the text does not say what it wrote")?;
+            return Ok(Some(*value));
+        }
+        Ok(flag(what).map(|bit| Value::Truth(behind.flags >> bit & 1 == 1)))
+    }
+
+    fn load(&mut self, name: &str, load: &str) -> Told {
+        let (place, width) = load.split_once("], ").ok_or("no width")?;
+        let width = width
+            .strip_suffix(" bits")
+            .and_then(|width| width.parse().ok());
+        let (address, bits) = self.place(place)?;
+        same(width, Some(bits))?;
+        let at = self.beside.visits[self.at];
+        let value = self.memory(at, address, bits)?;
+        self.count("loads");
+        self.known.insert(name.to_owned(), Value::Bits(value, bits));
+        Ok(())
+    }
+
+    fn store(&mut self, place: &str, formula: &str) -> Told {
+        let (address, bits) = self.place(place)?;
+        let told = self.value(formula)?;
+        let behind = self.step_behind(self.at);
+        let real = self.memory(behind, address, bits)?;
+        self.count("stores");
+        if told.is_memory(real, bits)? {
+            return Ok(());
+        }
+        Err(format!("told {told:x?}, real {real:x}"))
+    }
+
+    fn memory(&self, at: usize, address: u32, bits: u32) -> Result<u128, String> {
+        let memory = self.beside.run.memory(self.beside.parts, at, address, bits);
+        memory.ok_or_else(|| format!("{address:x} is outside"))
+    }
+
+    /// The real address and width of the instruction's memory operand,
+    /// which must be those of the place in the text.
+    fn place(&mut self, text: &str) -> Result<(u32, u32), String> {
+        let told = place::address(text, |register| self.register(register));
+        let before = self.before();
+        let general = |name: &str| place::register(name).map(|at| before.general[at]);
+        let (bits, operand) = self.instruction()?.memory().ok_or("no memory operand")?;
+        let real = place::address(operand, general).ok_or("no address")?;
+        same(told, Some(real))?;
+        let before = self.places.insert(text.to_owned(), real);
+        same(before.unwrap_or(real), real)?;
+        Ok((real, bits))
+    }
+
+    /// A register as the text names it: `esp0`, `eax`, or `eax@2a`.
+    fn register(&self, name: &str) -> Option<u32> {
+        if name == "esp0" {
+            return Some(self.beside.run.esp0());
+        }
+        match name.split_once('@') {
+            Some((name, address)) => {
+                let step = self.behind_last(hexadecimal(address)?).ok()?;
+                Some(step.general[place::register(name)?])
+            }
+            None => Some(self.before().general[place::register(name)?]),
+        }
+    }
+
+    /// Each visit that touches memory by an x87 instruction, or decides,
+    /// has a line; and where nothing was forgotten, so has each place of
+    /// the stack.
+    fn finish(self) -> Told {
+        let silent =
+            (0..self.beside.visits.len()).find(|at| !self.told.contains(at) && self.speaks(*at));
+        if let Some(at) = silent {
+            let ip = self.beside.run.steps[self.beside.visits[at]].ip;
+            return Err(format!("no line for {ip:x}"));
+        }
+        let full = (0..8)
+            .filter(|&place| self.last().st(place).is_some())
+            .count();
+        if self.stack > full || !self.forgotten && self.stack < full {
+            return Err(format!("{} places of {full} are told", self.stack));
+        }
+        Ok(())
+    }
+
+    /// Whether a visit must have a line.
+    fn speaks(&self, at: usize) -> bool {
+        let ip = self.beside.run.steps[self.beside.visits[at]].ip;
+        self.beside.code.at(ip).is_some_and(|code| {
+            code.is_conditional_jump() || code.name.starts_with('f') && code.memory().is_some()
+        })
+    }
+}
+
+/// What a line says of a conditional jump.
+fn decision(body: &str) -> Option<bool> {
+    let jump = body.strip_prefix("-- j")?;
+    if jump.ends_with(": taken") {
+        return Some(true);
+    }
+    jump.ends_with(": not taken").then_some(false)
+}
+
+fn is_input(name: &str) -> bool {
+    let digits = name.strip_prefix("in");
+    digits.is_some_and(|digits| digits.parse::<u32>().is_ok())
+}
+
+fn place_of_stack(text: &str) -> Option<usize> {
+    text.strip_prefix("st(")?.strip_suffix(')')?.parse().ok()
+}
+
+fn flag(name: &str) -> Option<u32> {
+    FLAGS
+        .iter()
+        .find(|(flag, _)| *flag == name)
+        .map(|&(_, bit)| bit)
+}
+
+/// C0, C2 and C3 of a status word.
+fn conditions(value: Value) -> Result<u16, String> {
+    match value {
+        Value::Bits(bits, 16) => Ok(u16::try_from(bits).unwrap_or(0) & CONDITIONS),
+        value => Err(format!("{value:?} is no status word")),
+    }
+}
+
+fn hexadecimal(text: &str) -> Option<u32> {
+    u32::from_str_radix(text, 16).ok()
+}
+
+fn same<T: PartialEq + std::fmt::Debug>(told: T, real: T) -> Told {
+    if told == real {
+        return Ok(());
+    }
+    Err(format!("told {told:x?}, real {real:x?}"))
+}
