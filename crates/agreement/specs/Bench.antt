@@ -1,5 +1,5 @@
 -- THEOREM 4: THE EXAMPLES FROM THE BENCH HOLD.
--- Document 01's P1 to P12 are one table, and `bench` is the one statement that all of it holds. A row is as a listing has it: number, kind, a, b, c
+-- P1 to P12 of the manual, section 10, are one table, and `bench` is the one statement that all of it holds. A row is as a listing has it: number, kind, a, b, c
 use mathlib.Core.Path.{_≡_, refl}
 use mathlib.Core.Bool.{true, false}
 use mathlib.Core.List.{List, [], _∷_}

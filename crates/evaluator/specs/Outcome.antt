@@ -1,4 +1,4 @@
--- What an evaluation says, the column after it, and document 01's numbers.
+-- What an evaluation says, the column after it, and the numbers of the manual, section 7.
 use mathlib.Core.Bool.{cond, _&&_}
 use mathlib.Core.List.{List, _++_}
 use Prim.Native.Nat.{ℕ, _*_, _/_}
@@ -28,7 +28,7 @@ columnAfter (Fault i) w n g l = l
 columnAfter (TooWide i) w n g l = l
 columnAfter Room w n g l = l
 
--- document 01's number, and the node beside it
+-- the number of the answer, and the node beside it
 abbrev pub numberOf : Outcome → ℕ
 numberOf Done = 0
 numberOf (Fault i) = 8

@@ -1,4 +1,4 @@
-// The calls on images and lists of nodes: document 01's number back, and what goes with it in the lent words.
+// The calls on images and lists of nodes: a number of the manual, section 7, back, and what goes with it in the lent words.
 ghost use mathlib.Core.Path.{_≡_};
 ghost use Rattle.export.specs.Values.{patternWords, ReadsImage, WritesImage, ChecksNodes, EvaluatesNodes};
 use image::Found;

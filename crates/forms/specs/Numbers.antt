@@ -1,4 +1,4 @@
--- The numbers that answers and forms have outside: document 01's where it gives one, else the order of the Rust's declarations.
+-- The numbers that answers and forms have outside (the manual, sections 4, 7 and 9): those of forms follow the order of the Rust's declarations.
 use mathlib.Core.Bool.{Bool, true, false}
 use mathlib.Core.List.{List, [], _∷_}
 use Prim.Native.Nat.{ℕ}
@@ -88,7 +88,7 @@ wordsOf (Unary op) = 12 ∷ unaryNumber op ∷ 0 ∷ 0 ∷ 0 ∷ 0 ∷ 0 ∷ 0 �
 abbrev pub noWords : List ℕ
 noWords = 0 ∷ 0 ∷ 0 ∷ 0 ∷ 0 ∷ 0 ∷ 0 ∷ 0 ∷ []
 
--- 0 modelled, 1 declined, 3 and 4 as document 01 numbers the refusals
+-- 0 modelled, 1 declined, 3 and 4 refused
 abbrev pub numberOf : Classified → ℕ
 numberOf (classified.Modelled f) = 0
 numberOf classified.Declined = 1

@@ -1,4 +1,4 @@
--- What the two calls answer, and document 01's number and node for each answer.
+-- What the two calls answer, and the number (the manual, section 7) and node of each answer.
 use mathlib.Core.Bool.{cond}
 use mathlib.Core.List.{List, _++_}
 use Prim.Native.Nat.{ℕ, _^_}
@@ -31,7 +31,7 @@ imageAfter b p =
     (cond (ltb (val p) (2 ^ 79)) (bytesOf 10 (imageOf (val p)) ++ drop 10 b)
     b)
 
--- document 01's number, and the node beside it: an image call names node 0
+-- the number of the answer, and the node beside it: an image call names node 0
 abbrev pub readNumber : Found → ℕ
 readNumber (found.Pattern p) = 0
 readNumber found.TooWide = 9

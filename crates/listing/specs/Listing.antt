@@ -31,7 +31,7 @@ unfoldable pub textOf : List ℕ → List ℕ → Stop → List ℕ
 textOf nodes statements r =
     rows 110 nodes (r .state .nodes) ++ (rows 115 statements (r .state .statements) ++ (stateLine (r .state) ++ refusalLine (r .number) (r .place)))
 
--- document 01's number
+-- the number of the answer: the manual, section 7
 abbrev pub numberOf : Listed → ℕ
 numberOf (Bytes n) = 0
 numberOf Short = 10

@@ -1,4 +1,4 @@
--- The format of a record, as document 01 has it.
+-- The format of a record: the manual, section 8.
 use mathlib.Core.Bool.{Bool, cond}
 use mathlib.Core.List.{List, [], _∷_, _++_}
 use Prim.Native.Nat.{ℕ, zero, suc, _-_}

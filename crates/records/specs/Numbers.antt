@@ -1,4 +1,4 @@
--- Document 01's numbers and places for each outcome.
+-- The number and the place of each outcome: the manual, sections 7 and 8.
 use mathlib.Core.Bool.{Bool, true, false}
 use Prim.Native.Nat.{ℕ}
 use Rattle.records.specs.declared.Refusal.{Refusal}

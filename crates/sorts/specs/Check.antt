@@ -1,4 +1,4 @@
--- What the check says of a list, and document 01's numbers for it.
+-- What the check says of a list, and the numbers of the manual, section 7, for it.
 use mathlib.Core.Bool.{cond}
 use mathlib.Core.List.{List, [], _∷_}
 use Prim.Native.Nat.{ℕ, _+_}
@@ -18,7 +18,7 @@ firstFault i (s ∷ l) = cond (eqb s 0) (Fault i) (firstFault (i + 1) l)
 unfoldable pub checkOf : List ℕ → ℕ → Verdict
 checkOf w n = cond (leb n (roomOf (length w))) (firstFault 0 (sorts w n)) Room
 
--- document 01's number, and the node beside it
+-- the number of the answer, and the node beside it
 abbrev pub numberOf : Verdict → ℕ
 numberOf Passed = 0
 numberOf (Fault i) = 8

@@ -1,4 +1,4 @@
-//! The sort check, compared with document 01 said plainly.
+//! The sort check, compared with its rules said plainly.
 
 use plain::TOO_SHORT;
 use plain::sorts::{Verdict, check};

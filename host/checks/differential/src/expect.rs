@@ -1,5 +1,5 @@
-//! What classify and effect are expected to answer: the refusals as
-//! document 01 says them, all else as the Rust says it.
+//! What classify and effect are expected to answer: the refusals by
+//! the manual, section 7, all else as the Rust says it.
 
 use plain::{DECLINED, Instruction, MODELLED, REGISTER, TOO_SHORT, refusal};
 
@@ -89,7 +89,7 @@ pub fn blanks_around_ax(flat: &[u8]) -> bool {
         && blank_trimmed(text).eq_ignore_ascii_case(b"ax")
 }
 
-/// Document 01's trim: bytes 9 to 13 and 32 at both ends.
+/// The trim of a text: bytes 9 to 13 and 32 at both ends.
 fn blank_trimmed(text: &[u8]) -> &[u8] {
     let blank = |b: &u8| matches!(b, 9..=13 | 32);
     let from = text.iter().position(|b| !blank(b)).unwrap_or(text.len());

@@ -1,5 +1,5 @@
 //! The 80-bit image, compared with the processor's own loads and stores,
-//! and with document 01 said plainly.
+//! and with its rules said plainly.
 
 use plain::image::{Fields, IMAGE, image, number, read, write};
 use plain::sorts::Format;
@@ -127,8 +127,8 @@ impl<S: Formulas> Run<'_, S> {
         });
     }
 
-    /// Slices of any length and patterns of any width, against document
-    /// 01 said plainly: answers, and what was lent.
+    /// Slices of any length and patterns of any width, against the rules
+    /// said plainly: answers, and what was lent.
     fn slices(&mut self, rng: &mut Rng) {
         let mut bytes = [BYTE_BEFORE; BYTES];
         bytes[..IMAGE].copy_from_slice(&random(rng));
@@ -236,9 +236,9 @@ pub fn random(rng: &mut Rng) -> [u8; IMAGE] {
     image
 }
 
-/// Whether document 01 finds a number in an image that the processor puts
-/// in this class. The processor takes an exponent of 0 with the integer
-/// bit for a denormal number too; document 01 does not.
+/// Whether an image that the processor puts in this class has a number
+/// (the manual, section 6). The processor takes an exponent of 0 with the
+/// integer bit for a denormal number too; here it has none.
 fn numbered(image: &[u8; IMAGE], class: Class) -> bool {
     match class {
         Class::Unsupported => false,

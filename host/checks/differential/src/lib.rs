@@ -1,5 +1,5 @@
 //! The proved crates, linked as a static library, compared with the Rust
-//! they are a port of, and with document 01 said plainly.
+//! they are a port of, and with the rules of the manual said plainly.
 
 use std::io::Write as _;
 

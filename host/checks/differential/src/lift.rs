@@ -84,8 +84,9 @@ impl Expected {
     }
 }
 
-/// Document 01's order of answers over the oracle's step: 10, 5, 4, 3, 6,
-/// 7, then what the Rust says. The lists are lent with so many words.
+/// The order of answers (the manual, section 7) over the oracle's step:
+/// 10, 5, 4, 3, 6, 7, then what the Rust says. The lists are lent with so
+/// many words.
 #[must_use]
 pub fn expect(flat: &[u8], state: &[u64], nodes: usize, statements: usize) -> Expected {
     let (Some(flat), Some(state)) = (flat.first_chunk::<FLAT>(), state.first_chunk::<STATE>())

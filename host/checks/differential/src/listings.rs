@@ -1,6 +1,6 @@
 //! The program `x87lift` as a process, compared byte for byte with the
-//! listing that follows from the plain reader, the rooms that document 01
-//! names, and the Rust.
+//! listing that follows from the plain reader, the program's rooms (the
+//! manual, section 8) and the Rust.
 
 use std::fmt::Write;
 use std::io;
@@ -141,7 +141,7 @@ fn say(subject: &impl Lists, kind: Kind, input: &[u8]) -> io::Result<String> {
     ))
 }
 
-/// The run over an input as document 01 says it.
+/// The run over an input, by the rules of the manual, section 8.
 #[must_use]
 pub fn expect(input: &[u8]) -> Expected {
     let mut work = Work {

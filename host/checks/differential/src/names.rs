@@ -1,6 +1,7 @@
 //! The 56 names, and names that are nearly one.
 
-/// The names that document 01 counts, in the order of `classify`.
+/// The names of the table (the manual, section 2), in the order of
+/// `classify`.
 pub const NAMES: [&str; 56] = [
     "fld1", "fldz", "fabs", "fchs", "fsqrt", "frndint", "fxch", "fld", "fild", "fst", "fstp",
     "fist", "fistp", "fisttp", "fcom", "fcomp", "fucom", "fucomp", "fcompp", "fucompp", "fcomi",

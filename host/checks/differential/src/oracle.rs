@@ -1,5 +1,5 @@
-//! The Rust's answers: an instruction of document 01 is handed to
-//! `x87.rs` as r2SMT's own instruction.
+//! The Rust's answers: an instruction (the manual, section 2) is handed
+//! to `x87.rs` as r2SMT's own.
 
 use plain::Instruction;
 use r2smt_common::Address;

@@ -2,7 +2,7 @@
 
 use std::fmt;
 
-/// Document 01's numbers, from 0 on.
+/// The numbers of answers, from 0 on (the manual, section 7).
 const NUMBERS: [&str; 14] = [
     "modelled, or a record or the end",
     "declined, unmodelled form",

@@ -12,8 +12,8 @@ use crate::patterns::ones;
 use crate::sexpr::Sexpr;
 
 /// How `FpToIeeeBv` is said. SMT-LIB has no such function, and leaves
-/// open which pattern a NaN has; document 01 holds every NaN as one, and
-/// both ways say so themselves.
+/// open which pattern a NaN has; here every NaN is held as one (the
+/// manual, section 6), and both ways say so themselves.
 #[derive(Debug, Clone, Copy)]
 pub enum Pattern<'a> {
     /// By `fp.to_ieee_bv`, which z3 has.

@@ -193,7 +193,7 @@ fn same_statement(stmt: &IrStmt, words: [u64; 4], nodes: &[u64]) -> bool {
     }
 }
 
-/// The flags by document 01's numbers.
+/// The flags by their numbers (the manual, section 4).
 const FLAGS: [&str; 5] = ["CF", "PF", "ZF", "OF", "SF"];
 
 fn is_at(address: &Expr, number: u64) -> bool {

@@ -1,5 +1,5 @@
 //! The evaluator, compared node by node with a solver; and its refusals,
-//! compared with document 01 said plainly.
+//! compared with their rules said plainly.
 
 use std::io;
 

@@ -1,5 +1,5 @@
-//! Document 01's examples, on the oracle: the recording build counts and
-//! orders nodes as the document does.
+//! The examples of the manual, section 10, on the oracle: the recording
+//! build counts and orders nodes as they do.
 #![cfg(not(no_oracle))]
 
 use differential::steps::{Step, step};

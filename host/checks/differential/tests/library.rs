@@ -1,4 +1,4 @@
-//! The static library against the Rust, document 01 said plainly, the
+//! The static library against the Rust, its rules said plainly, the
 //! solvers and the processor, in a smaller fixed part of the full runs.
 //! Fails where the library is not built.
 

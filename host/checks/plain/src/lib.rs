@@ -1,8 +1,8 @@
-//! Document 01 said plainly in Rust: what an instruction is and how it
-//! lies in bytes, which instructions are refused, how records are read,
-//! which states are valid, which nodes have a sort, which given values
-//! fit, and what an 80-bit image holds. Written for being read, not for
-//! speed.
+//! The rules of the manual (`docs/MANUAL.md`) said plainly in Rust: what
+//! an instruction is and how it lies in bytes, which instructions are
+//! refused, how records are read, which states are valid, which nodes have
+//! a sort, which given values fit, and what an 80-bit image holds. Written
+//! for being read, not for speed.
 
 mod flat;
 pub mod image;

@@ -1,5 +1,5 @@
-//! Which nodes have a sort, and which: document 01's paragraph "Sorts",
-//! with the fields of each kind from "State, nodes, statements".
+//! Which nodes have a sort, and which: the manual, section 5, with the
+//! fields of each kind from section 4.
 
 use crate::state::{ROW, room};
 use crate::{MODELLED, NO_SORT, TOO_SHORT};

@@ -87,15 +87,15 @@ pub(crate) fn fp_sort_bits_checked(width: u16) -> Option<(u16, u16)> {
     })
 }
 
-/// The form of `insn` as document 01's eight words, or `None` where
-/// `classify` declines.
+/// The form of `insn` as eight words (the manual, section 9), or `None`
+/// where `classify` declines.
 #[must_use]
 pub fn classify(insn: &Instruction) -> Option<[u64; 8]> {
     probe::form_words(insn)
 }
 
-/// What `insn` touches, as document 01's seven answers, or `None` where
-/// `x87_effect` declines.
+/// What `insn` touches, as seven answers (the manual, section 2), or
+/// `None` where `x87_effect` declines.
 #[must_use]
 pub fn effect(insn: &Instruction) -> Option<[bool; 7]> {
     probe::effect_flags(insn)

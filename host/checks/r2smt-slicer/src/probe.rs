@@ -1,4 +1,5 @@
-//! A window into `x87.rs`: its private types as document 01's numbers.
+//! A window into `x87.rs`: its private types as the numbers of the
+//! manual, section 9.
 //!
 //! This is a child module of `x87.rs`, so it sees what is private there.
 //! It computes nothing of its own.
@@ -84,7 +85,7 @@ fn rounding_number(rounding: RoundingMode) -> u64 {
     match rounding {
         RoundingMode::NearestTiesEven => 0,
         RoundingMode::TowardZero => 1,
-        other => panic!("document 01 has no number for {other:?}"),
+        other => panic!("the manual has no number for {other:?}"),
     }
 }
 

@@ -61,7 +61,7 @@ impl RoundingMode {
         match self {
             Self::NearestTiesEven => 0,
             Self::TowardZero => 1,
-            other => panic!("document 01 has no number for {other:?}"),
+            other => panic!("the manual has no number for {other:?}"),
         }
     }
 }

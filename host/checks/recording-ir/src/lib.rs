@@ -1,9 +1,9 @@
 //! An IR whose expressions are node numbers.
 //!
 //! `x87.rs` is built a second time over this crate in the place of
-//! `r2smt-ir`. Each constructor writes one row of document 01's four
-//! words when it returns; a clone writes none. The list of rows is then
-//! what document 01 calls the nodes, in the Rust's own order of calls.
+//! `r2smt-ir`. Each constructor writes one row of four words when it
+//! returns; a clone writes none. The list of rows is then what the
+//! manual, section 4, calls the nodes, in the Rust's own order of calls.
 
 pub mod expr;
 pub mod memory;

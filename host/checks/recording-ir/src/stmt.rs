@@ -1,4 +1,4 @@
-//! The statements, and document 01's four words of each.
+//! The statements, and the four words of each (the manual, section 4).
 
 use r2smt_common::Address;
 
@@ -59,7 +59,7 @@ fn assigned(name: &str, node: u64) -> Row {
         "OF" => [4, 3, node, 0],
         "SF" => [4, 4, node, 0],
         "ax" => [5, node, 0, 0],
-        other => panic!("document 01 has no statement that assigns {other}"),
+        other => panic!("the manual has no statement that assigns {other}"),
     }
 }
 
@@ -69,7 +69,7 @@ fn declined(comment: &str) -> Row {
     let answer = match reason {
         "unmodelled x87 form" => 1,
         "x87 stack overflow" => 2,
-        other => panic!("document 01 has no number for '{other}'"),
+        other => panic!("the manual has no number for '{other}'"),
     };
     let address = Address::printed(address).expect("an address");
     [6, answer, address.0, 0]

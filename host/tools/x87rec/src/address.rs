@@ -50,35 +50,40 @@ pub fn inner(text: &str) -> Option<String> {
     Some(inner.split_whitespace().collect())
 }
 
-/// Whether the address can be built: `x86_address_expr`, of which only
-/// the yes or no is wanted.
-pub fn is_known(text: &str) -> bool {
+/// An address as a sum of registers, each with its scale, and a constant.
+#[derive(Debug, Clone, PartialEq, Eq, PartialOrd, Ord)]
+pub struct Address {
+    pub registers: Vec<(String, u64)>,
+    pub offset: i64,
+}
+
+/// The address of a memory operand, where it can be built as
+/// `x86_address_expr` builds it.
+pub fn address(text: &str) -> Option<Address> {
     if in_segment(text) {
-        return false;
+        return None;
     }
-    let Some(inner) = inner(text).filter(|inner| !inner.is_empty()) else {
-        return false;
+    let inner = inner(text).filter(|inner| !inner.is_empty())?;
+    let mut sum = Address {
+        registers: Vec::new(),
+        offset: 0,
     };
-    let mut sum: i64 = 0;
     for (term, negative) in terms(&inner) {
         if let Some((register, scale)) = term.split_once('*') {
-            if negative || !is_general(register) || immediate(scale).is_none() {
-                return false;
-            }
+            let scale = immediate(scale).filter(|_| !negative && is_general(register))?;
+            sum.registers.push((register.to_owned(), scale));
         } else if is_general(term) {
             if negative {
-                return false;
+                return None;
             }
+            sum.registers.push((term.to_owned(), 1));
         } else if !term.is_empty() {
-            let constant = immediate(term).and_then(|n| i64::try_from(n).ok());
-            let signed = constant.map(|n| if negative { -n } else { n });
-            let Some(next) = signed.and_then(|n| sum.checked_add(n)) else {
-                return false;
-            };
-            sum = next;
+            let constant = immediate(term).and_then(|n| i64::try_from(n).ok())?;
+            let signed = if negative { -constant } else { constant };
+            sum.offset = sum.offset.checked_add(signed)?;
         }
     }
-    true
+    Some(sum)
 }
 
 /// The terms of a sum, and whether each is subtracted.
@@ -97,7 +102,7 @@ fn terms(inner: &str) -> Vec<(&str, bool)> {
 }
 
 /// A number as `parse_immediate` reads it.
-fn immediate(text: &str) -> Option<u64> {
+pub fn immediate(text: &str) -> Option<u64> {
     let (negative, body) = match text.strip_prefix('-') {
         Some(rest) => (true, rest),
         None => (false, text),
@@ -117,36 +122,18 @@ fn number(body: &str) -> Option<u64> {
     }
 }
 
-/// Base and offset of a stack slot: `stack_slot`.
-pub fn slot(text: &str) -> Option<(&'static str, i64)> {
-    let inner = inner(text)?;
-    if inner.contains('*') {
-        return None;
+/// Whether this is a stack slot as `stack_slot` has it: a base `rbp` or
+/// `rsp` in any width and one constant.
+pub fn is_slot(address: &Address) -> bool {
+    match &address.registers[..] {
+        [(base, 1)] => matches!(parent(base), Some("rbp" | "rsp")),
+        _ => false,
     }
-    let (base, offset) = if let Some((base, rest)) = inner.split_once('+') {
-        (base, offset(rest)?)
-    } else if let Some((base, rest)) = inner.split_once('-') {
-        (base, -offset(rest)?)
-    } else {
-        (inner.as_str(), 0)
-    };
-    let base = parent(base).filter(|base| ["rbp", "rsp"].contains(base))?;
-    Some((base, offset))
-}
-
-/// A signed number as `parse_integer` reads it.
-fn offset(text: &str) -> Option<i64> {
-    let (negative, body) = match text.strip_prefix(['-', '+']) {
-        Some(body) => (text.starts_with('-'), body),
-        None => (false, text),
-    };
-    let value = i64::try_from(number(body)?).ok()?;
-    Some(if negative { -value } else { value })
 }
 
 #[cfg(test)]
 mod tests {
-    use super::{is_known, memory, slot, width};
+    use super::{address, is_slot, memory, width};
 
     #[test]
     fn widths_stand_before_ptr() {
@@ -174,7 +161,7 @@ mod tests {
             "[r12d*8]",
             "[rsp]",
         ] {
-            assert!(is_known(text), "{text}");
+            assert!(address(text).is_some(), "{text}");
         }
         for text in [
             "gs:[0x14]",
@@ -186,18 +173,20 @@ mod tests {
             "[rax+label]",
             "[rax+0x8000000000000000]",
         ] {
-            assert!(!is_known(text), "{text}");
+            assert_eq!(address(text), None, "{text}");
         }
+        let sum = address("[eax+ebx*4-0x10]").expect("it is known");
+        let registers = [("eax", 1), ("ebx", 4)].map(|(name, scale)| (name.to_owned(), scale));
+        assert_eq!((&sum.registers[..], sum.offset), (&registers[..], -16));
     }
 
     #[test]
     fn slots_have_a_base_and_an_offset() {
-        assert_eq!(slot("[rbp-0x18]"), Some(("rbp", -24)));
-        assert_eq!(slot("[ebp - 0x18]"), Some(("rbp", -24)));
-        assert_eq!(slot("dword ptr [rsp+8]"), Some(("rsp", 8)));
-        assert_eq!(slot("[esp]"), Some(("rsp", 0)));
+        for text in ["[rbp-0x18]", "[ebp - 0x18]", "dword ptr [rsp+8]", "[esp]"] {
+            assert!(address(text).is_some_and(|a| is_slot(&a)), "{text}");
+        }
         for text in ["[rax]", "[rbp+rax]", "[rbp+rax*4]", "[0x10]", "[rip+0x10]"] {
-            assert_eq!(slot(text), None, "{text}");
+            assert!(!address(text).is_some_and(|a| is_slot(&a)), "{text}");
         }
     }
 

@@ -1,4 +1,4 @@
-//! Disassembled text as records for `x87lift`.
+//! Disassembled text as records for `x87lift`, with notes for `x87show`.
 //!
 //! # Which lines become records
 //!
@@ -9,11 +9,10 @@
 //! ends the slice. The same is done here, for a whole text:
 //!
 //! - An x87 instruction (its name begins with `f`, or is `wait`) is a
-//!   record.
+//!   record, but for `fldcw` and `fnstcw`, which leave the stack alone:
+//!   see below.
 //! - An instruction on the list of [`passes`] cannot touch the x87 stack,
-//!   and is passed over; the count of each name is reported. A
-//!   conditional jump is among them: what follows is the lift of the way
-//!   on which it is not taken.
+//!   and is passed over; the count of each name is reported.
 //! - Everything else is a record too: calls, jumps, returns, MMX, bad
 //!   bytes, names that nobody knows. The lifter declines it and forgets
 //!   the stack, so that nothing is carried across it.
@@ -29,32 +28,47 @@
 //! With `path`, one way through the code is followed from its first line
 //! on, as r2SMT's slices are: a jump goes on at its target, a conditional
 //! one only where it is listed, and the way ends at a return, at a line
-//! that it met before, or where it leaves the text. There are no entries
-//! then, since the way into each line is known; neither are the jumps and
-//! the return records, so that the stack at the end is what the function
-//! gives back. The formulas hold for the runs that take this way.
+//! that it met before, or where it leaves the text; the notes say which.
+//! There are no entries then, since the way into each line is known;
+//! neither are the jumps and the return records, so that the stack at the
+//! end is what the function gives back. The formulas hold for the runs
+//! that take this way.
 //!
-//! A flag node names the flag, not its value at that moment, and integer
-//! instructions that are passed over may write flags: what a `fcmovcc`
-//! selects on is the flag as it is at its address. The targets of
-//! indirect jumps cannot be seen in the text; their presence is reported.
-//! So are instructions that write the control word, such as `fldcw`: the
-//! lifter declines them, and takes the roundings behind them to be those
-//! of the reset word, where r2SMT's slicer (`writes_rounding_control`)
-//! would have ended the slice.
+//! # The control word
+//!
+//! On entry it is taken to round to nearest even with extended precision.
+//! What the code does to it is followed ([`Machine`](machine::Machine)):
+//! a word that `fnstcw` stored, that `or`, `and`, `xor` or `mov` of
+//! constants changed and that `fldcw` loads is known. An instruction whose
+//! result depends on the word is lifted only where it rounds to nearest
+//! even, and computes with extended precision if it computes; a `fistp`
+//! that rounds toward zero is lifted as `fisttp`, which it then is; all
+//! others are handed over under a name that the lifter declines, and the
+//! notes say why. A word that is loaded from elsewhere, or changed by an
+//! instruction or a library function that may do so, is not known.
+//!
+//! With `assume_reset` none of this is done: `fldcw` and `fnstcw` are
+//! records that the lifter declines, and every rounding behind them is
+//! taken to be to nearest even.
+//!
+//! # Flags
+//!
+//! A flag node names the flag, not its value at that moment. For each
+//! instruction that reads a flag or the status word the notes say which
+//! instruction wrote it last.
 //!
 //! # Numbers
 //!
-//! - Address number: memory operands with the same address text have the
-//!   same number, from 1 on in order of appearance; width, case and
-//!   blanks do not count. A number stands for the text, not for a place:
-//!   between two lines its registers may have changed. `[rip+..]` is
-//!   numbered by the address that objdump's comment gives; without a
-//!   comment each has its own number.
-//! - Slot number: `[rbp-0x18]`, `[ebp-0x18]`, `[rsp+8]` and so on, as
-//!   r2SMT's `stack_slot` has it (base `rbp` or `rsp` in any width and one
-//!   constant), have one number for each base and offset, from 1 on; all
-//!   else has 0.
+//! - Address number: memory operands with the same [place](place::Place)
+//!   have the same number, from 1 on in order of appearance. A place is a
+//!   sum of registers at the values that they have there, a symbol that
+//!   the linker will put in, and a constant; one on the stack is counted
+//!   from the stack pointer on entry as long as that is known. An absolute
+//!   address that no linker has put in yet is a place of its own at each
+//!   instruction.
+//! - Slot number: a base `rbp` or `rsp` in any width and one constant, as
+//!   r2SMT's `stack_slot` has it, has one number for each place; all else
+//!   has none.
 //! - Known is what r2SMT's `x86_address_expr` can build: sums of general
 //!   registers, scaled or not, and constants, without a segment prefix
 //!   and without subtracted registers. objdump writes an absolute address
@@ -63,55 +77,53 @@
 //! - Width is that of the size before `PTR`, as in r2SMT's
 //!   `memory_operand_width`; 0 where there is none.
 //!
-//! objdump writes the top of the stack as `st` in two-operand forms; that
-//! is `st(0)`, as r2SMT's disassembler has it. An instruction with more
-//! than three operands, which no x87 instruction has, becomes one with a
-//! single operand of the kind 'other'.
+//! The top of the stack may be written `st`, and places `st3`; that is
+//! `st(0)` and `st(3)`, as r2SMT's disassembler has it. An instruction
+//! with more than three operands, which no x87 instruction has, becomes
+//! one with a single operand of the kind 'other'.
 
 mod address;
+mod control;
+mod effects;
+mod flow;
 mod line;
+mod machine;
 mod names;
 mod operand;
 mod passing;
 mod path;
+mod place;
+mod wanted;
+mod word;
+mod work;
 
 use std::collections::{BTreeMap, BTreeSet};
-use std::fmt::{self, Write};
+use std::fmt;
 
-use sleetgate::{Instruction, write_end, write_record};
+use notes::Notes;
+use sleetgate::write_end;
 
+use flow::{Callees, along, through};
+use line::Line;
 pub use line::hexadecimal;
-use line::{Code, Line};
-use operand::Numbering;
 pub use passing::passes;
-
+pub use path::Take;
+use path::Way;
 pub use sleetgate::MOST_BYTES;
-
-/// Instructions that write the control word.
-const CONTROL: [&str; 8] = [
-    "fldcw",
-    "fldenv",
-    "frstor",
-    "fxrstor",
-    "fxrstor64",
-    "xrstor",
-    "xrstor64",
-    "xrstors",
-];
-
-/// The name of a record that stands for an entry from elsewhere.
-const ENTRY: &str = "entry";
+use work::Work;
 
 /// What is asked for.
 #[derive(Debug, Clone, Default)]
 pub struct Options {
     /// Whether every instruction becomes a record.
     pub every: bool,
-    /// The one function that is wanted, by its symbol.
+    /// The one function that is wanted, by its symbol or its address.
     pub function: Option<String>,
-    /// Whether one way through the code is followed, and the addresses of
-    /// the conditional jumps that are taken on it.
-    pub path: Option<Vec<u64>>,
+    /// Whether one way through the code is followed, and the conditional
+    /// jumps that are taken on it.
+    pub path: Option<Vec<Take>>,
+    /// Whether the control word is taken to be the reset one throughout.
+    pub assume_reset: bool,
 }
 
 /// What is wrong with the text.
@@ -131,33 +143,29 @@ impl fmt::Display for Wrong {
     }
 }
 
+impl std::error::Error for Wrong {}
+
 /// The records of a text, and what there is to say of them.
 #[derive(Debug, Default)]
 pub struct Translated {
-    pub instructions: Vec<Instruction>,
+    /// The records, and what happens between them.
+    pub notes: Notes,
     /// Lines of code.
     pub lines: usize,
     /// Names that were passed over, and how often.
     pub passed: BTreeMap<String, usize>,
     /// Records that stand for an entry.
     pub entries: usize,
-    /// Jumps whose targets the text does not tell.
-    pub indirect: usize,
-    /// Instructions that write the control word.
-    pub control: usize,
-    /// What the numbers stand for: `a NUMBER TEXT` for addresses, `i
-    /// ADDRESS TEXT` for instructions, and `e ADDRESS` for entries.
-    pub names: String,
 }
 
 impl Translated {
     /// The records, and the end mark.
     #[must_use]
     pub fn bytes(&self) -> Vec<u8> {
-        let mut bytes = Vec::new();
-        for insn in &self.instructions {
-            write_record(insn, &mut bytes).expect("the texts are short and the operands few");
-        }
+        let records = self.notes.records();
+        let mut bytes: Vec<u8> = records
+            .flat_map(|(_, record)| record.bytes.clone())
+            .collect();
         write_end(&mut bytes);
         bytes
     }
@@ -165,11 +173,12 @@ impl Translated {
 
 impl fmt::Display for Translated {
     fn fmt(&self, f: &mut fmt::Formatter<'_>) -> fmt::Result {
-        let (records, entries) = (self.instructions.len(), self.entries);
         write!(
             f,
-            "{} instructions, {records} records, {entries} of them for entries",
-            self.lines
+            "{} instructions, {} records, {} of them for entries",
+            self.lines,
+            self.notes.records().count(),
+            self.entries
         )?;
         let passed: Vec<String> = self
             .passed
@@ -179,16 +188,6 @@ impl fmt::Display for Translated {
         if !passed.is_empty() {
             write!(f, "; passed over: {}", passed.join(", "))?;
         }
-        if self.indirect > 0 {
-            write!(f, "; indirect jumps, targets not seen: {}", self.indirect)?;
-        }
-        if self.control > 0 {
-            write!(
-                f,
-                "; control word written, roundings behind it not known: {}",
-                self.control
-            )?;
-        }
         Ok(())
     }
 }
@@ -196,110 +195,91 @@ impl fmt::Display for Translated {
 /// The records of a text.
 ///
 /// # Errors
-/// The first line that is not understood, or that the wanted function or
-/// a jump that is taken is not there.
+/// The first line that is not understood; that the wanted function or a
+/// jump that is taken is not there; or that `x87lift` does not take so
+/// many bytes.
 pub fn translate(text: &str, options: &Options) -> Result<Translated, Wrong> {
     let all = line::all(text)?;
-    let mut targets: BTreeSet<u64> = code(&all).filter_map(Code::target).collect();
-    let mut lines = wanted(all, options)?;
-    if let Some(taken) = &options.path {
-        lines = path::follow(lines, taken)?;
-        targets.clear();
-    }
-    let mut work = Work {
-        done: Translated::default(),
-        numbering: Numbering::default(),
-        forgotten: true,
-        broken: false,
-        options,
+    let mut callees = Callees::of(&all, stack_word(&all));
+    let targets: BTreeSet<u64> = all
+        .iter()
+        .filter_map(Line::code)
+        .filter_map(line::Code::target)
+        .collect();
+    let lines = match &options.function {
+        Some(function) => wanted::function(all, function)?,
+        None => all,
     };
-    for line in &lines {
+    let translated = match &options.path {
+        Some(takes) => {
+            let way = path::follow(lines, takes)?;
+            one_way(&way, &mut callees, options)
+        }
+        None => whole(&lines, &targets, &mut callees, options),
+    }?;
+    fits(translated)
+}
+
+/// The bytes of an entry on the stack: eight where a line names a register
+/// of 64 bits.
+fn stack_word(lines: &[Line]) -> i64 {
+    let long = |word: &str| word.len() == 3 && word.starts_with('r') && names::is_general(word);
+    let names_long = |text: &String| {
+        let lower = text.to_ascii_lowercase();
+        lower.split(|c: char| !c.is_ascii_alphanumeric()).any(long)
+    };
+    let mut code = lines.iter().filter_map(Line::code);
+    if code.any(|code| code.operands.iter().any(names_long)) {
+        return 8;
+    }
+    4
+}
+
+/// One way through the code.
+fn one_way(way: &Way, callees: &mut Callees, options: &Options) -> Result<Translated, Wrong> {
+    let machines = along(&way.steps, callees);
+    let code = way.steps.iter().map(|step| &step.code);
+    let mut work = Work::new(options, callees, code);
+    for (step, machine) in way.steps.iter().zip(&machines) {
+        work.step(step, machine)?;
+    }
+    work.end(way);
+    Ok(work.done("one way through the code: what is shown holds for the runs that take it"))
+}
+
+/// All lines of a text in their order.
+fn whole(
+    lines: &[Line],
+    targets: &BTreeSet<u64>,
+    callees: &mut Callees,
+    options: &Options,
+) -> Result<Translated, Wrong> {
+    let machines = through(lines, callees);
+    let code = lines.iter().filter_map(Line::code);
+    let mut work = Work::new(options, callees, code);
+    for line in lines {
         match line {
-            Line::Break | Line::Symbol(_) => work.broken = true,
-            Line::Code(code) => work.code(code, targets.contains(&code.address))?,
+            Line::Break => work.broken(None),
+            Line::Symbol(name) => work.broken(Some(name)),
+            Line::Code(code) => {
+                let entered = targets.contains(&code.address);
+                work.line(code, &machines[&code.address], entered)?;
+            }
         }
     }
-    let names = work.numbering.names() + &named_code(&lines);
-    work.done.names.insert_str(0, &names);
-    Ok(work.done)
+    work.off(lines.iter().rev().find_map(Line::code));
+    Ok(work.done("all lines in their order: a conditional jump is passed over as not taken"))
 }
 
-fn code(lines: &[Line]) -> impl Iterator<Item = &Code> {
-    lines.iter().filter_map(|line| match line {
-        Line::Code(code) => Some(code),
-        _ => None,
-    })
-}
-
-fn named_code(lines: &[Line]) -> String {
-    let mut names = String::new();
-    for code in code(lines) {
-        let _ = writeln!(names, "i {} {}", code.address, code.text());
+/// The translation, if `x87lift` takes its bytes.
+fn fits(translated: Translated) -> Result<Translated, Wrong> {
+    let bytes = translated.bytes().len();
+    if bytes <= MOST_BYTES {
+        return Ok(translated);
     }
-    names
-}
-
-/// The lines of the wanted function, or all.
-fn wanted(lines: Vec<Line>, options: &Options) -> Result<Vec<Line>, Wrong> {
-    let Some(function) = &options.function else {
-        return Ok(lines);
-    };
-    let is_it = |line: &Line| matches!(line, Line::Symbol(name) if name == function);
-    let Some(first) = lines.iter().position(is_it) else {
-        let why = format!("there is no function `{function}`");
-        return Err(Wrong { line: 0, why });
-    };
-    let rest = lines.into_iter().skip(first + 1);
-    Ok(rest
-        .take_while(|line| !matches!(line, Line::Symbol(_)))
-        .collect())
-}
-
-/// A translation under way.
-struct Work<'a> {
-    done: Translated,
-    numbering: Numbering,
-    /// Whether the lifter has no stack to carry on: at the beginning, and
-    /// after a record that it is sure to decline.
-    forgotten: bool,
-    /// Whether the next instruction does not follow on the last.
-    broken: bool,
-    options: &'a Options,
-}
-
-impl Work<'_> {
-    fn code(&mut self, code: &Code, target: bool) -> Result<(), Wrong> {
-        let entered = std::mem::take(&mut self.broken) || target;
-        if entered && !self.forgotten {
-            self.entry(code.address);
-        }
-        self.done.lines += 1;
-        self.done.indirect += usize::from(code.is_indirect());
-        self.done.control += usize::from(CONTROL.contains(&code.name.as_str()));
-        if self.passes(code) {
-            *self.done.passed.entry(code.name.clone()).or_default() += 1;
-            return Ok(());
-        }
-        let insn = self.numbering.instruction(code)?;
-        self.done.instructions.push(insn);
-        // All names that the lifter models begin with an `f`.
-        self.forgotten = !code.name.starts_with('f');
-        Ok(())
-    }
-
-    /// Whether an instruction is passed over. On a path, so is a jump
-    /// whose target comes next, and the return that ends it.
-    fn passes(&self, code: &Code) -> bool {
-        let jumps = code.name == "jmp" && !code.is_indirect();
-        let followed = self.options.path.is_some() && (jumps || code.is_return());
-        !self.options.every && (followed || passes(&code.name, &code.operands))
-    }
-
-    fn entry(&mut self, address: u64) {
-        let entry = Instruction::new(address, ENTRY, []);
-        self.done.instructions.push(entry);
-        self.done.entries += 1;
-        let _ = writeln!(self.done.names, "e {address}");
-        self.forgotten = true;
-    }
+    let why = format!(
+        "{bytes} bytes of records, and x87lift takes {MOST_BYTES}: \
+         take one function (--function) or one way (--path)"
+    );
+    Err(Wrong { line: 0, why })
 }

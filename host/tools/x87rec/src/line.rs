@@ -12,12 +12,24 @@ pub enum Line {
     Code(Code),
 }
 
+impl Line {
+    /// The instruction, where the line is one.
+    pub fn code(&self) -> Option<&Code> {
+        match self {
+            Self::Code(code) => Some(code),
+            _ => None,
+        }
+    }
+}
+
 /// An instruction, still as text.
-#[derive(Debug)]
+#[derive(Debug, Clone)]
 pub struct Code {
     /// The line, from 1 on.
     pub line: usize,
     pub address: u64,
+    /// The address of the code line that follows.
+    pub next: Option<u64>,
     /// Prefix words that stand before the name.
     pub prefixes: Vec<String>,
     /// The name in lower case.
@@ -25,6 +37,19 @@ pub struct Code {
     pub operands: Vec<String>,
     /// The address in objdump's comment, which is that of `[rip+..]`.
     pub comment: Option<u64>,
+    /// What the linker will put into the instruction.
+    pub relocation: Option<Relocation>,
+}
+
+/// A line of `objdump -dr` below an instruction.
+#[derive(Debug, Clone, PartialEq, Eq)]
+pub struct Relocation {
+    /// Where in the code the linker writes.
+    pub place: u64,
+    /// Its kind, such as `R_386_32`.
+    pub kind: String,
+    /// The symbol, with a number added or subtracted where there is one.
+    pub symbol: String,
 }
 
 /// Words that objdump writes before a name.
@@ -35,43 +60,93 @@ const PREFIXES: [&str; 20] = [
 
 /// All lines that count.
 pub fn all(text: &str) -> Result<Vec<Line>, Wrong> {
-    let mut lines = Vec::new();
+    let mut lines: Vec<Line> = Vec::new();
+    let mut last = None;
     for (at, line) in text.lines().enumerate() {
         let wrong = |why: String| Wrong { line: at + 1, why };
-        lines.extend(one(line, at + 1).map_err(wrong)?);
+        match one(line, at + 1).map_err(wrong)? {
+            None => {}
+            Some(Read::Relocation(relocation)) => {
+                let code = last.and_then(|at: usize| lines.get_mut(at));
+                let Some(Line::Code(code)) = code else {
+                    return Err(wrong("a relocation without an instruction".to_owned()));
+                };
+                code.relocation = Some(relocation);
+            }
+            Some(Read::Line(line)) => {
+                if let Line::Code(code) = &line {
+                    followed(&mut lines, last, code.address);
+                    last = Some(lines.len());
+                }
+                lines.push(line);
+            }
+        }
     }
     Ok(lines)
 }
 
+/// Tell the last code line which address follows on it.
+fn followed(lines: &mut [Line], last: Option<usize>, address: u64) {
+    if let Some(Line::Code(code)) = last.and_then(|at| lines.get_mut(at)) {
+        code.next = Some(address);
+    }
+}
+
+/// What a line is read as.
+enum Read {
+    Line(Line),
+    Relocation(Relocation),
+}
+
 /// What a line says; nothing where it is blank, a comment, the name of the
 /// file or the rest of a long instruction's bytes.
-fn one(line: &str, number: usize) -> Result<Option<Line>, String> {
-    let trimmed = line.trim();
-    if trimmed.is_empty() || trimmed.starts_with('#') || trimmed.contains("  file format ") {
+fn one(line: &str, number: usize) -> Result<Option<Read>, String> {
+    let trimmed = line.trim().trim_start_matches("=>").trim_start();
+    if trimmed.is_empty() || trimmed.starts_with('#') || trimmed.contains("file format ") {
         return Ok(None);
     }
-    if trimmed == "..." || trimmed.starts_with("Disassembly of section ") {
-        return Ok(Some(Line::Break));
+    let breaks = ["Disassembly of section ", "End of assembler dump"];
+    if trimmed == "..." || breaks.iter().any(|words| trimmed.starts_with(words)) {
+        return Ok(Some(Read::Line(Line::Break)));
     }
     if let Some(name) = symbol(trimmed) {
-        return Ok(Some(Line::Symbol(name.to_owned())));
+        return Ok(Some(Read::Line(Line::Symbol(name.to_owned()))));
     }
     let unknown = || format!("`{trimmed}` is no line of a disassembly");
-    let cut = trimmed.find(|c: char| c == ':' || c.is_whitespace());
-    let (address, rest) = trimmed.split_at(cut.ok_or_else(unknown)?);
-    let address = hexadecimal(address).ok_or_else(unknown)?;
-    let text = without_bytes(rest.trim_start_matches(':'));
+    let (address, rest) = addressed(trimmed).ok_or_else(unknown)?;
+    let text = without_bytes(rest);
     if text.is_empty() {
         return Ok(None);
     }
-    code(number, address, text).map(|code| Some(Line::Code(code)))
+    if text.starts_with("R_") {
+        let relocation = relocation(address, text).ok_or_else(unknown)?;
+        return Ok(Some(Read::Relocation(relocation)));
+    }
+    code(number, address, text).map(|code| Some(Read::Line(Line::Code(code))))
 }
 
-/// The name in `0000000000001139 <name>:`.
+/// The name in `0000000000001139 <name>:`, or in gdb's first line.
 fn symbol(line: &str) -> Option<&str> {
+    if let Some(rest) = line.strip_prefix("Dump of assembler code for function ") {
+        return rest.strip_suffix(':');
+    }
     let (address, name) = line.split_once(' ')?;
     hexadecimal(address)?;
     name.strip_prefix('<')?.strip_suffix(">:")
+}
+
+/// The address that a line begins with, and what follows; gdb writes
+/// `0x08049000 <+0>:` or `0x08049000 <f+0>:`.
+fn addressed(line: &str) -> Option<(u64, &str)> {
+    let cut = line.find(|c: char| c == ':' || c.is_whitespace())?;
+    let (address, rest) = line.split_at(cut);
+    let address = hexadecimal(address)?;
+    let behind = rest.trim_start();
+    let behind = match behind.strip_prefix('<') {
+        Some(name) => name.split_once('>')?.1,
+        None => behind,
+    };
+    Some((address, behind.trim_start_matches(':')))
 }
 
 /// A hexadecimal number, with or without `0x`.
@@ -80,21 +155,29 @@ pub fn hexadecimal(text: &str) -> Option<u64> {
     u64::from_str_radix(text.strip_prefix("0x").unwrap_or(text), 16).ok()
 }
 
-/// What stands behind the instruction's bytes, which are two digits each.
+/// What stands behind the instruction's bytes, which are two digits each;
+/// no name is two such digits.
 fn without_bytes(rest: &str) -> &str {
-    let is_byte = |word: &&str| word.len() == 2 && word.bytes().all(|b| b.is_ascii_hexdigit());
-    let rest = rest.trim();
-    let (bytes, text) = rest.split_once('\t').unwrap_or((rest, ""));
-    if bytes.split_whitespace().all(|word| is_byte(&word)) {
-        return text.trim();
+    let mut rest = rest.trim();
+    loop {
+        let (word, behind) = rest.split_once(char::is_whitespace).unwrap_or((rest, ""));
+        if word.len() != 2 || !word.bytes().all(|b| b.is_ascii_hexdigit()) {
+            return rest;
+        }
+        rest = behind.trim_start();
     }
-    rest
+}
+
+fn relocation(place: u64, text: &str) -> Option<Relocation> {
+    let (kind, symbol) = text.split_once(char::is_whitespace)?;
+    Some(Relocation {
+        place,
+        kind: kind.to_owned(),
+        symbol: symbol.trim().to_owned(),
+    })
 }
 
 fn code(line: usize, address: u64, text: &str) -> Result<Code, String> {
-    if text.starts_with("R_") {
-        return Err("a relocation: disassemble the linked file".to_owned());
-    }
     let (text, comment) = text.split_once('#').unwrap_or((text, ""));
     if text.contains('%') {
         return Err("AT&T syntax: use objdump -d -M intel".to_owned());
@@ -118,10 +201,12 @@ fn code(line: usize, address: u64, text: &str) -> Result<Code, String> {
     Ok(Code {
         line,
         address,
+        next: None,
         prefixes,
         name,
         operands: operands(rest)?,
         comment: comment.split_whitespace().next().and_then(hexadecimal),
+        relocation: None,
     })
 }
 
@@ -151,9 +236,10 @@ fn operands(text: &str) -> Result<Vec<String>, String> {
 }
 
 impl Code {
-    /// Where a jump or a call goes, if the text tells.
+    /// Where a jump or a call goes, if the text tells; a target that the
+    /// linker has yet to put in is told by its symbol alone.
     pub fn target(&self) -> Option<u64> {
-        if !self.goes_elsewhere() {
+        if !self.goes_elsewhere() || self.relocation.is_some() {
             return None;
         }
         let word = self.operands.first()?.split_whitespace().next()?;
@@ -162,22 +248,45 @@ impl Code {
 
     /// Whether this jumps to where the text does not tell.
     pub fn is_indirect(&self) -> bool {
-        self.name.starts_with('j') && self.target().is_none()
+        self.name.starts_with('j') && self.target().is_none() && self.relocation.is_none()
     }
 
     pub fn is_return(&self) -> bool {
         self.name.starts_with("ret")
     }
 
+    pub fn is_call(&self) -> bool {
+        self.name == "call"
+    }
+
+    /// Whether this is a jump that may go on below.
+    pub fn is_conditional(&self) -> bool {
+        (self.name.starts_with('j') && self.name != "jmp") || self.name.starts_with("loop")
+    }
+
     fn goes_elsewhere(&self) -> bool {
         self.name.starts_with('j') || self.name.starts_with("loop") || self.name == "call"
+    }
+
+    /// The symbol that the linker or the disassembler gives a target.
+    pub fn symbol(&self) -> Option<&str> {
+        if let Some(relocation) = &self.relocation {
+            return Some(&relocation.symbol);
+        }
+        let (_, name) = self.operands.first()?.split_once('<')?;
+        name.strip_suffix('>')
     }
 
     /// The instruction as one line of text.
     pub fn text(&self) -> String {
         let words = self.prefixes.iter().chain([&self.name]);
         let words: Vec<&str> = words.map(String::as_str).collect();
-        let text = format!("{} {}", words.join(" "), self.operands.join(", "));
-        text.trim_end().to_owned()
+        let operands = match &self.relocation {
+            Some(relocation) if self.goes_elsewhere() => relocation.symbol.clone(),
+            _ => self.operands.join(", "),
+        };
+        format!("{} {operands}", words.join(" "))
+            .trim_end()
+            .to_owned()
     }
 }

@@ -29,6 +29,55 @@ pub fn parent(name: &str) -> Option<&'static str> {
     Some(row[0])
 }
 
+/// The part of a general register that a name is.
+#[derive(Debug, Clone, Copy, PartialEq, Eq)]
+pub enum Part {
+    /// All of it, or its lower 32 bits, which clear the rest.
+    Whole,
+    Word,
+    Low,
+    High,
+}
+
+/// Numbers of registers, for [`register`].
+pub const RAX: usize = 0;
+pub const RCX: usize = 2;
+pub const RDX: usize = 3;
+pub const RSI: usize = 4;
+pub const RDI: usize = 5;
+pub const RBP: usize = 6;
+pub const RSP: usize = 7;
+
+/// How many general registers there are.
+pub const REGISTERS: usize = 16;
+
+/// The number of the general register that a name is a part of, and the
+/// part.
+pub fn register(name: &str) -> Option<(usize, Part)> {
+    let row = GENERAL.iter().position(|row| row.contains(&name));
+    if let Some(row) = row {
+        let part = match GENERAL[row].iter().position(|&n| n == name)? {
+            2 => Part::Word,
+            3 => Part::Low,
+            _ => Part::Whole,
+        };
+        return Some((row, part));
+    }
+    if let Some(row) = OTHERS[..4].iter().position(|&high| high == name) {
+        return Some((row, Part::High));
+    }
+    if !is_numbered_general(name) {
+        return None;
+    }
+    let digits = name.trim_matches(|c: char| !c.is_ascii_digit());
+    let part = match name.as_bytes().last() {
+        Some(b'w') => Part::Word,
+        Some(b'b' | b'l') => Part::Low,
+        _ => Part::Whole,
+    };
+    Some((digits.parse().ok()?, part))
+}
+
 /// Whether this is a register that an address may be a sum of.
 pub fn is_general(name: &str) -> bool {
     parent(name).is_some() || OTHERS.contains(&name) || is_numbered_general(name)

@@ -1,24 +1,26 @@
 //! Operands, and the numbers of addresses and slots.
 
-use std::fmt::Write;
+use std::collections::BTreeMap;
 
-use sleetgate::{Instruction, MOST_OPERANDS, Operand, Place, TEXT};
+use sleetgate::{Instruction, MOST_OPERANDS, Operand, Place as Numbers, TEXT};
 
 use crate::Wrong;
-use crate::address::{in_segment, inner, is_known, memory, slot, width};
+use crate::address::{address, in_segment, is_slot, memory, width};
 use crate::line::Code;
+use crate::machine::Machine;
 use crate::names::is_register;
+use crate::place::{Place, Version};
 
-/// The addresses and slots so far; a number is a position, from 1 on.
+/// The places so far; a number is a position, from 1 on.
 #[derive(Debug, Default)]
 pub struct Numbering {
-    addresses: Vec<String>,
-    slots: Vec<(&'static str, i64)>,
+    places: Vec<Place>,
+    slots: Vec<Place>,
 }
 
 impl Numbering {
-    /// The instruction of a line.
-    pub fn instruction(&mut self, code: &Code) -> Result<Instruction, Wrong> {
+    /// The instruction of a line, where this is known of the machine.
+    pub fn instruction(&mut self, code: &Code, machine: &Machine) -> Result<Instruction, Wrong> {
         let wrong = |why| Wrong {
             line: code.line,
             why,
@@ -26,16 +28,17 @@ impl Numbering {
         let operands = if code.operands.len() > MOST_OPERANDS {
             vec![Operand::Other]
         } else {
-            let read = code.operands.iter().map(|text| self.operand(text, code));
+            let texts = code.operands.iter();
+            let read = texts.map(|text| self.operand(text, code, machine));
             read.collect::<Result<Vec<_>, _>>().map_err(wrong)?
         };
         Ok(Instruction::new(code.address, &code.name, operands))
     }
 
-    fn operand(&mut self, text: &str, code: &Code) -> Result<Operand, String> {
+    fn operand(&mut self, text: &str, code: &Code, machine: &Machine) -> Result<Operand, String> {
         let lower = text.to_ascii_lowercase();
-        if lower == "st" {
-            return Ok(Operand::register("st(0)"));
+        if let Some(place) = stack_place(&lower) {
+            return Ok(Operand::register(place));
         }
         if is_register(&lower) || lower.starts_with("st(") {
             if lower.len() > TEXT || !lower.is_ascii() {
@@ -44,54 +47,67 @@ impl Numbering {
             return Ok(Operand::register(lower));
         }
         if let Some(memory) = memory(text) {
-            return Ok(self.memory(&memory, code));
+            return Ok(self.memory(&memory, code, machine));
         }
         if in_segment(text) {
-            return Ok(Operand::memory(width(text), Place::Unknown));
+            return Ok(Operand::memory(width(text), Numbers::Unknown));
         }
         Ok(Operand::Other)
     }
 
-    fn memory(&mut self, text: &str, code: &Code) -> Operand {
+    fn memory(&mut self, text: &str, code: &Code, machine: &Machine) -> Operand {
         let width = width(text);
-        let moved = code.prefixes.iter().any(|word| word.len() == 2);
-        let Some(inner) = inner(text).filter(|_| is_known(text) && !moved) else {
-            return Operand::memory(width, Place::Unknown);
+        let Some(place) = machine.place(text, code) else {
+            return Operand::memory(width, Numbers::Unknown);
         };
-        let address = number(&mut self.addresses, &address(inner, code));
-        let place = match slot(text) {
-            Some(slot) => Place::Slot {
-                address,
-                slot: number(&mut self.slots, &slot),
-            },
-            None => Place::Address(address),
+        let address_number = number(&mut self.places, &place);
+        let numbers = if address(text).is_some_and(|sum| is_slot(&sum)) {
+            Numbers::Slot {
+                address: address_number,
+                slot: number(&mut self.slots, &place),
+            }
+        } else {
+            Numbers::Address(address_number)
         };
-        Operand::memory(width, place)
+        Operand::memory(width, numbers)
     }
 
-    /// What the address numbers stand for, a line each.
-    pub fn names(&self) -> String {
-        let mut names = String::new();
-        for (number, address) in (1..).zip(&self.addresses) {
-            let _ = writeln!(names, "a {number} [{address}]");
+    /// What the address numbers stand for. Where a text would stand for
+    /// two places, it tells whose values its registers have.
+    pub fn texts(&self, pointer: &str) -> Vec<String> {
+        let mut plain: BTreeMap<String, usize> = BTreeMap::new();
+        for place in &self.places {
+            *plain.entry(place.text(pointer, false)).or_default() += 1;
         }
-        names
+        let text = |place: &Place| {
+            let short = place.text(pointer, false);
+            if plain[&short] > 1 {
+                return place.text(pointer, true);
+            }
+            short
+        };
+        self.places.iter().map(text).collect()
+    }
+
+    /// Whether a place is counted from the stack pointer on entry.
+    pub fn names_entry(&self) -> bool {
+        let entry = |place: &Place| matches!(place.stack, Some(Version::Entry(_)));
+        self.places.iter().any(entry)
     }
 }
 
-/// The address text by which an operand is numbered.
-fn address(inner: String, code: &Code) -> String {
-    if !inner.contains("rip") {
-        return inner;
-    }
-    match code.comment {
-        Some(place) => format!("0x{place:x}"),
-        None => format!("{inner} of {:x}", code.address),
-    }
+/// `st` and `st0` to `st7` as r2SMT's disassembler writes them.
+fn stack_place(lower: &str) -> Option<String> {
+    let number = match lower.strip_prefix("st")? {
+        "" => "0",
+        digit => digit,
+    };
+    let is_place = number.len() == 1 && number.bytes().all(|b| b.is_ascii_digit());
+    is_place.then(|| format!("st({number})"))
 }
 
-/// The position of an entry, from 1 on; a new one is added.
-fn number<T: PartialEq + Clone>(all: &mut Vec<T>, entry: &T) -> u32 {
+/// The position of a place, from 1 on; a new one is added.
+fn number(all: &mut Vec<Place>, entry: &Place) -> u32 {
     let at = all.iter().position(|old| old == entry).unwrap_or_else(|| {
         all.push(entry.clone());
         all.len() - 1

@@ -1,49 +1,143 @@
 //! One way through the code.
 
-use std::collections::BTreeMap;
+use std::collections::{BTreeMap, BTreeSet, HashMap};
 
 use crate::Wrong;
 use crate::line::{Code, Line};
 
-/// The lines of the way from the first line on, on which these
-/// conditional jumps are taken.
-pub fn follow(lines: Vec<Line>, taken: &[u64]) -> Result<Vec<Line>, Wrong> {
-    let mut left = BTreeMap::new();
-    let mut at = None;
+/// A conditional jump that is taken on the way.
+#[derive(Debug, Clone, PartialEq, Eq)]
+pub struct Take {
+    /// Where it stands.
+    pub address: u64,
+    /// Whether it is taken, each time that the way comes to it; when these
+    /// are used up it is not. `None`: it is always taken.
+    pub decisions: Option<Vec<bool>>,
+}
+
+/// A line of the way.
+pub struct Step {
+    pub code: Code,
+    /// Whether a conditional jump is taken here.
+    pub taken: Option<bool>,
+}
+
+/// How a way ends.
+#[derive(Debug, Clone, Copy, PartialEq, Eq)]
+pub enum End {
+    /// At a return.
+    Return,
+    /// It comes to this line again.
+    Again(u64),
+    /// A jump leaves the text.
+    Leaves,
+    /// A jump whose target the text does not tell.
+    Indirect,
+    /// The text has no line behind the last one.
+    Off,
+}
+
+/// A way and its end.
+pub struct Way {
+    pub steps: Vec<Step>,
+    pub end: End,
+}
+
+/// The way from the first line on, on which these conditional jumps are
+/// taken.
+pub fn follow(lines: Vec<Line>, takes: &[Take]) -> Result<Way, Wrong> {
+    let mut code = BTreeMap::new();
+    let mut first = None;
     for line in lines {
-        let Line::Code(code) = line else { continue };
-        at = at.or(Some(code.address));
-        let (line, address) = (code.line, code.address);
-        if left.insert(address, code).is_some() {
+        let Line::Code(line) = line else { continue };
+        first = first.or(Some(line.address));
+        let (number, address) = (line.line, line.address);
+        if code.insert(address, line).is_some() {
             let why = format!("{address:x} stands there twice");
-            return Err(Wrong { line, why });
+            return Err(Wrong { line: number, why });
         }
     }
-    let order: Vec<u64> = left.keys().copied().collect();
-    let mut way = Vec::new();
-    // A line that the way met before is no longer left.
-    while let Some(code) = at.and_then(|at| left.remove(&at)) {
-        at = next(&code, taken, &order);
-        way.push(Line::Code(code));
-    }
-    let met = |jump: &u64| order.contains(jump) && !left.contains_key(jump);
-    match taken.iter().find(|jump| !met(jump)) {
-        Some(jump) => Err(Wrong {
+    let mut walk = Walk {
+        code: &code,
+        takes,
+        used: HashMap::new(),
+        met: BTreeSet::new(),
+        steps: Vec::new(),
+    };
+    let end = walk.from(first);
+    let missed = takes.iter().find(|take| !walk.came_to(take.address));
+    match missed {
+        Some(take) => Err(Wrong {
             line: 0,
-            why: format!("the way does not come to {jump:x}"),
+            why: format!("the way does not come to {:x}", take.address),
         }),
-        None => Ok(way),
+        None => Ok(Way {
+            steps: walk.steps,
+            end,
+        }),
     }
 }
 
-/// Where the way goes on.
-fn next(code: &Code, taken: &[u64], order: &[u64]) -> Option<u64> {
-    if code.is_return() {
-        return None;
+struct Walk<'a> {
+    code: &'a BTreeMap<u64, Code>,
+    takes: &'a [Take],
+    /// How many decisions were used at each jump.
+    used: HashMap<u64, usize>,
+    /// Lines that the way met since the last decision that was listed.
+    met: BTreeSet<u64>,
+    steps: Vec<Step>,
+}
+
+impl Walk<'_> {
+    fn from(&mut self, first: Option<u64>) -> End {
+        let mut at = first;
+        loop {
+            let Some(address) = at else { return End::Off };
+            let Some(code) = self.code.get(&address) else {
+                return End::Leaves;
+            };
+            if !self.met.insert(address) {
+                return End::Again(address);
+            }
+            let taken = code.is_conditional().then(|| self.decide(address));
+            self.steps.push(Step {
+                code: code.clone(),
+                taken,
+            });
+            if code.is_return() {
+                return End::Return;
+            }
+            at = if code.name == "jmp" || taken == Some(true) {
+                match code.target() {
+                    Some(target) => Some(target),
+                    None if code.is_indirect() => return End::Indirect,
+                    None => return End::Leaves,
+                }
+            } else {
+                self.code.range(address + 1..).next().map(|(&next, _)| next)
+            };
+        }
     }
-    if code.name == "jmp" || taken.contains(&code.address) {
-        return code.target();
+
+    /// Whether a jump is taken this time. A decision that is listed lets
+    /// the way meet its lines again.
+    fn decide(&mut self, address: u64) -> bool {
+        let Some(take) = self.takes.iter().find(|take| take.address == address) else {
+            return false;
+        };
+        let Some(decisions) = &take.decisions else {
+            return true;
+        };
+        let used = self.used.entry(address).or_default();
+        let decision = decisions.get(*used).copied();
+        *used += 1;
+        if decision.is_some() {
+            self.met.clear();
+        }
+        decision.unwrap_or(false)
     }
-    let behind = order.partition_point(|&address| address <= code.address);
-    order.get(behind).copied()
+
+    fn came_to(&self, address: u64) -> bool {
+        self.steps.iter().any(|step| step.code.address == address)
+    }
 }

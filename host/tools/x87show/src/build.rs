@@ -11,10 +11,11 @@ use crate::terms::{Id, Operator, Term, Terms};
 const SIGN: u128 = 1 << 78;
 const MAGNITUDE: u128 = SIGN - 1;
 
-/// A flag that is read: the node, the flag, and what it is called.
+/// A flag, or `fsw`, that is read: the node, what is read, and what its
+/// value is called.
 pub struct Read {
     pub node: u64,
-    pub flag: &'static str,
+    pub of: &'static str,
     pub name: String,
 }
 
@@ -24,6 +25,10 @@ pub struct Built {
     pub terms: Terms,
     pub of: Vec<Id>,
     pub reads: Vec<Read>,
+    /// The node with which each term was first made.
+    pub made: Vec<usize>,
+    /// The number of the input that a term is.
+    pub inputs: HashMap<Id, u64>,
 }
 
 /// The terms of these nodes, whose operands are earlier nodes.
@@ -34,6 +39,8 @@ pub fn build(nodes: &[Node]) -> Built {
             terms: Terms::default(),
             of: Vec::new(),
             reads: Vec::new(),
+            made: Vec::new(),
+            inputs: HashMap::new(),
         },
         formats: Vec::new(),
         loads: HashMap::new(),
@@ -43,6 +50,7 @@ pub fn build(nodes: &[Node]) -> Built {
         builder.formats.push(format);
         let id = builder.term(number, node);
         builder.built.of.push(id);
+        builder.built.made.resize(builder.built.terms.len(), number);
     }
     builder.built
 }
@@ -94,14 +102,18 @@ impl Builder<'_> {
 
     fn term(&mut self, number: usize, node: Node) -> Id {
         match node {
-            Node::Input { number, .. } => self.built.terms.leaf(format!("in{number}")),
+            Node::Input { number, .. } => {
+                let id = self.built.terms.leaf(format!("in{number}"));
+                self.built.inputs.insert(id, number);
+                id
+            }
             Node::Temporary { number, .. } => self.built.terms.leaf(format!("m{number}")),
             Node::Slot { number, .. } => {
                 let name = self.again(format!("s{number}"));
                 self.built.terms.leaf(name)
             }
-            Node::Status => self.built.terms.leaf("fsw"),
-            Node::Flag(flag) => self.flag(number as u64, flag),
+            Node::Status => self.read(number as u64, "fsw"),
+            Node::Flag(flag) => self.read(number as u64, flag_name(flag)),
             Node::Constant { value, bits: 79 } => self.number(value, Format::Extended),
             Node::Constant { value, .. } => self.built.terms.leaf(value.to_string()),
             Node::And(a, b) => self.and(a, b),
@@ -166,13 +178,13 @@ impl Builder<'_> {
         }
     }
 
-    fn flag(&mut self, node: u64, flag: Flag) -> Id {
-        let flag = flag_name(flag);
-        let times = self.loads.entry(flag.to_owned()).or_default();
+    /// A flag, or the status word, as it is at this node.
+    fn read(&mut self, node: u64, of: &'static str) -> Id {
+        let times = self.loads.entry(of.to_owned()).or_default();
         *times += 1;
-        let name = format!("{flag}{times}");
+        let name = format!("{of}{times}");
         let id = self.built.terms.leaf(name.clone());
-        self.built.reads.push(Read { node, flag, name });
+        self.built.reads.push(Read { node, of, name });
         id
     }
 

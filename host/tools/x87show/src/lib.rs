@@ -1,16 +1,19 @@
 //! A listing of `x87lift` as formulas that a person can read.
 //!
-//! Each statement becomes a line, in the listing's order; the stack
-//! follows, and then the refusal in words.
+//! With the notes of `x87rec` each line begins with the address of the
+//! instruction that it is about. Lines that begin with `--`, behind the
+//! address where there is one, are words; all others are formulas. The
+//! words at the head say what is assumed.
 //!
 //! | text | what it says |
 //! |---|---|
 //! | `m0 := [eax], 32 bits` | temporary 0 is loaded |
-//! | `s1 := [rbp-0x8], 64 bits` | slot 1 is loaded; `s1_2` the second time |
-//! | `in0` | input 0: what was there before, and nobody knows |
+//! | `s1 := [esp0+0x8], 64 bits` | slot 1 is loaded; `s1_2` the second time |
+//! | `in0` | input 0: what was there before, and nobody knows; words say where |
 //! | `[ebx] := f32(a + b)` | a store |
 //! | `let t1 = ..` | a part that is used more than once, or is long |
-//! | `CF1 := CF` | the flag is read here, for a conditional move |
+//! | `CF1 := CF, as fcomi at 38 wrote it` | the flag is read here, and who wrote it |
+//! | `fsw1 := fsw, as fcom at 20 wrote it` | the status word likewise |
 //! | `f32(x)`, `f64(x)` | the float x rounded to 32 or 64 bits |
 //! | `f80(x)` | the 80-bit image of x |
 //! | `number(m0, in1)` | the number whose 80-bit image is m0; in1 where it is none |
@@ -24,22 +27,52 @@
 //! and a widening, which is exact, write nothing. `fabs` and `fchs`, which
 //! are done on the pattern, are `abs(x)` and `-x`. Where the bits of a
 //! float are really meant, `bits(x)` says so.
+//!
+//! A listing does not say which instruction made which node, nor what the
+//! stack was in between. So the records in the notes are lifted again by
+//! the proved library, and the listing is taken only if it is that lift.
 
 mod build;
 mod listing;
-mod names;
 mod number;
 mod print;
 mod terms;
+mod trace;
+
+use notes::Notes;
+use sleetgate::Refusal;
 
 pub use listing::{Listing, Wrong};
-pub use names::Names;
 
-/// The readable text of a listing.
+/// A readable text.
+#[derive(Debug, Clone, PartialEq, Eq)]
+pub struct Shown {
+    pub text: String,
+    /// Whether the run stopped at a refusal, as the text says.
+    pub refused: bool,
+}
+
+/// The readable text of a listing, with the notes of its records.
 ///
 /// # Errors
-/// The first line that no listing has.
-pub fn show(listing: &str, names: &Names) -> Result<String, Wrong> {
+/// The first line that no listing has; or that a step before this one
+/// failed, or that the notes are of another run.
+pub fn show(listing: &str, notes: Option<&Notes>) -> Result<Shown, Wrong> {
+    if let Some(why) = notes.and_then(|notes| notes.failed.as_ref()) {
+        return Err(Wrong::Step(format!("x87rec failed: {why}")));
+    }
     let listing = Listing::read(listing)?;
-    Ok(print::text(&listing, names))
+    if listing.refused == Some((Refusal::EndsEarly, 0)) {
+        let why = "x87lift got no records: the step before it failed";
+        return Err(Wrong::Step(why.to_owned()));
+    }
+    let text = match notes {
+        Some(notes) => {
+            let spans = trace::trace(notes, &listing)?;
+            print::with_notes(&listing, notes, &spans)
+        }
+        None => print::alone(&listing),
+    };
+    let refused = listing.refused.is_some();
+    Ok(Shown { text, refused })
 }

@@ -15,19 +15,25 @@ pub struct Listing {
     pub refused: Option<(Refusal, u64)>,
 }
 
-/// What is wrong with a listing's text.
+/// What is wrong with a listing, or with the step that it came from.
 #[derive(Debug, Clone, PartialEq, Eq)]
-pub struct Wrong {
-    /// The line, from 1 on.
-    pub line: usize,
-    pub why: &'static str,
+pub enum Wrong {
+    /// A line that no listing has, from 1 on.
+    Line { line: usize, why: &'static str },
+    /// A step before this one went wrong, or its notes are of another run.
+    Step(String),
 }
 
 impl fmt::Display for Wrong {
     fn fmt(&self, f: &mut fmt::Formatter<'_>) -> fmt::Result {
-        write!(f, "line {}: {}", self.line, self.why)
+        match self {
+            Self::Line { line, why } => write!(f, "line {line} of the listing: {why}"),
+            Self::Step(why) => write!(f, "{why}"),
+        }
     }
 }
+
+impl std::error::Error for Wrong {}
 
 impl Listing {
     /// The listing of a text: rows `n`, rows `s`, one row `d`, and often
@@ -36,10 +42,14 @@ impl Listing {
     /// # Errors
     /// The first line that no listing has.
     pub fn read(text: &str) -> Result<Self, Wrong> {
+        if text.is_empty() {
+            let why = "x87lift wrote nothing: the step before this one failed";
+            return Err(Wrong::Step(why.to_owned()));
+        }
         let mut listing = Self::default();
         let mut ended = false;
         for (at, line) in text.lines().enumerate() {
-            let wrong = |why| Wrong { line: at + 1, why };
+            let wrong = |why| Wrong::Line { line: at + 1, why };
             let (mark, rest) = line.split_once(' ').unwrap_or((line, ""));
             let words: Result<Vec<u64>, _> = rest.split(' ').map(str::parse).collect();
             let words = words.map_err(|_| wrong("fields are decimal numbers"))?;
@@ -59,7 +69,7 @@ impl Listing {
         if !ended {
             let line = text.lines().count() + 1;
             let why = "the row d with the state is missing";
-            return Err(Wrong { line, why });
+            return Err(Wrong::Line { line, why });
         }
         Ok(listing)
     }

@@ -1,31 +1,45 @@
-//! `x87show [--names FILE]`: reads a listing of `x87lift` from standard
-//! input and prints it as formulas. The file is what `x87rec --names`
-//! wrote; without it, numbers stand in the place of texts.
+//! The command `x87show`: see [`HELP`].
 
-use std::io::{self, Read};
+use std::io::{self, Read, Write};
 use std::process::ExitCode;
 use std::{env, fs};
 
-use x87show::{Names, show};
+use notes::Notes;
+use x87show::{Shown, show};
 
-const USAGE: &str = "x87show [--names FILE] < LISTING";
+/// What `--help` prints.
+const HELP: &str = "\
+x87show: a listing of x87lift as formulas
+
+    x87show [--names FILE] < LISTING
+
+    --names FILE         what x87rec --names wrote: with it each line has its
+                         instruction's address, and it is said who wrote the
+                         flags, what is assumed and how the code ends
+    --help, --version
+
+The status is 0 if all was shown, 1 if x87lift refused an instruction, a
+step before failed or a file cannot be read or written, 2 for a wrong
+argument.
+";
 
 fn main() -> ExitCode {
     let words: Vec<String> = env::args().skip(1).collect();
     let words: Vec<&str> = words.iter().map(String::as_str).collect();
-    let names = match words[..] {
-        [] => None,
-        ["--names", file] => Some(file),
+    let shown = match words[..] {
+        [] => run(None),
+        ["--names", file] => run(Some(file)),
+        ["--help"] => Ok(whole(HELP.to_owned())),
+        ["--version"] => Ok(whole(format!("x87show {}\n", env!("CARGO_PKG_VERSION")))),
         _ => {
-            eprintln!("{USAGE}");
+            eprintln!("x87show: wrong arguments; x87show --help says more");
             return ExitCode::from(2);
         }
     };
-    match run(names) {
-        Ok(text) => {
-            print!("{text}");
-            ExitCode::SUCCESS
-        }
+    let refused = shown.as_ref().is_ok_and(|shown| shown.refused);
+    match shown.and_then(|shown| write(&shown.text)) {
+        Ok(()) if !refused => ExitCode::SUCCESS,
+        Ok(()) => ExitCode::FAILURE,
         Err(why) => {
             eprintln!("x87show: {why}");
             ExitCode::FAILURE
@@ -33,14 +47,32 @@ fn main() -> ExitCode {
     }
 }
 
-fn run(names: Option<&str>) -> Result<String, String> {
+/// A text that is not cut short by a refusal.
+fn whole(text: String) -> Shown {
+    let refused = false;
+    Shown { text, refused }
+}
+
+fn run(names: Option<&str>) -> Result<Shown, String> {
     let mut listing = String::new();
     let read = io::stdin().read_to_string(&mut listing);
     read.map_err(|e| format!("standard input: {e}"))?;
     // In a pipe the file is whole only when the listing has ended.
-    let names = match names {
-        Some(file) => fs::read_to_string(file).map_err(|e| format!("{file}: {e}"))?,
-        None => String::new(),
+    let notes = match names {
+        Some(file) => Some(notes(file).map_err(|e| format!("{file}: {e}"))?),
+        None => None,
     };
-    show(&listing, &Names::read(&names)).map_err(|wrong| wrong.to_string())
+    show(&listing, notes.as_ref()).map_err(|wrong| wrong.to_string())
+}
+
+fn notes(file: &str) -> Result<Notes, String> {
+    let text = fs::read_to_string(file).map_err(|e| e.to_string())?;
+    text.parse()
+        .map_err(|wrong: notes::Wrong| wrong.to_string())
+}
+
+fn write(text: &str) -> Result<(), String> {
+    let mut out = io::stdout();
+    let written = out.write_all(text.as_bytes()).and_then(|()| out.flush());
+    written.map_err(|e| format!("standard output: {e}"))
 }

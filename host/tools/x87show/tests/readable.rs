@@ -1,7 +1,7 @@
 //! Listings and their readable texts.
 
 use sleetgate::{Instruction, Lifter, Operand, Place};
-use x87show::{Names, Wrong, show};
+use x87show::{Wrong, show};
 
 /// The listing of some instructions, as the program prints it.
 fn listing(lifter: &Lifter, refused: &str) -> String {
@@ -42,7 +42,10 @@ fn shown(lines: &[&str]) -> String {
         let insn = Instruction::new(address, name, words.map(operand));
         lifter.lift(&insn).expect("there is room");
     }
-    show(&listing(&lifter, ""), &Names::default()).expect("it is a listing")
+    let shown = show(&listing(&lifter, ""), None).expect("it is a listing");
+    let (head, text) = shown.text.split_once('\n').expect("a head");
+    assert!(head.starts_with("-- without --names: "), "{head}");
+    text.to_owned()
 }
 
 #[test]
@@ -56,7 +59,7 @@ fn arithmetic_is_infix_with_few_brackets() {
     ]);
     let expected = "m0 := [address 1], 32 bits\nm1 := [address 2], 64 bits\n\
                     m2 := [address 3], 32 bits\nm3 := [address 4], 32 bits\n\
-                    [address 5] := f32(m3 - (m0 + m1) * m2)\nthe stack is empty\n";
+                    [address 5] := f32(m3 - (m0 + m1) * m2)\n-- nothing is known of the stack\n";
     assert_eq!(text, expected);
 }
 
@@ -101,12 +104,12 @@ fn constants_are_decimal() {
 fn images_and_integers_are_named() {
     assert_eq!(
         shown(&["fld 80@1", "fstp 80@2"]),
-        "m0 := [address 1], 80 bits\n[address 2] := f80(number(m0, in0))\nthe stack is empty\n"
+        "m0 := [address 1], 80 bits\n[address 2] := f80(number(m0, in0))\n-- nothing is known of the stack\n"
     );
     assert_eq!(
         shown(&["fild 16@1", "frndint", "fist 32@2", "fisttp 64@3"]),
         "m0 := [address 1], 16 bits\nlet t1 = round(int(m0))\n[address 2] := i32(t1)\n\
-         [address 3] := i64(trunc(t1))\nthe stack is empty\n"
+         [address 3] := i64(trunc(t1))\n-- nothing is known of the stack\n"
     );
 }
 
@@ -127,7 +130,7 @@ fn a_flag_is_read_where_it_is_read() {
 fn a_status_word_has_its_parts() {
     let expected = "let t1 = isnan(in0) || isnan(in1)\n\
                     fsw := status(C0: t1 || in0 < in1, C2: t1, C3: t1 || in0 == in1, rest: in2)\n\
-                    ax := fsw\nst(0) = in0\nst(1) = in1\n";
+                    fsw1 := fsw\nax := fsw1\nst(0) = in0\nst(1) = in1\n";
     assert_eq!(shown(&["fcom", "fnstsw ax"]), expected);
 }
 
@@ -135,29 +138,30 @@ fn a_status_word_has_its_parts() {
 fn declines_are_said_in_words() {
     assert_eq!(
         shown(&["fld1", "fsin"]),
-        "-- 0x11: not modelled, the stack is forgotten here\nthe stack is empty\n"
+        "-- 0x11: not modelled: the stack is forgotten here\n-- nothing is known of the stack\n"
     );
     let full = shown(&["fld1"; 9]);
-    assert!(full.starts_with("-- 0x18: pushes onto a full stack, the stack is forgotten here\n"));
-    let mut lifter = Lifter::with_capacity(16, 16);
-    for name in ["entry", "fsin"] {
-        lifter.lift(&Instruction::new(17, name, [])).expect("room");
-    }
-    let names = Names::read("a 1 [eax]\ni 17 fsin\ne 17\nnothing\n");
-    let text = show(&listing(&lifter, "r 6 99\n"), &names).expect("it is a listing");
-    let expected = "-- 0x11 is entered from elsewhere: the stack is forgotten here\n\
-                    -- 0x11 fsin: not modelled, the stack is forgotten here\nthe stack is empty\n\
-                    refused (6): no room for the instruction's nodes, at byte 99\n";
-    assert_eq!(text, expected);
+    assert!(full.starts_with("-- 0x18: pushes onto a full stack: the stack is forgotten here\n"));
+    let lifter = Lifter::with_capacity(16, 16);
+    let shown = show(&listing(&lifter, "r 6 99\n"), None).expect("it is a listing");
+    let end = "-- refused (6): no room for the instruction's nodes, at byte 99 of the records\n";
+    assert!(shown.refused && shown.text.ends_with(end), "{}", shown.text);
 }
 
 #[test]
 fn what_is_no_listing_is_named() {
-    let wrong = |text: &str| show(text, &Names::default()).expect_err("it is no listing");
-    let at = |line, why| Wrong { line, why };
-    assert_eq!(wrong(""), at(1, "the row d with the state is missing"));
-    assert_eq!(wrong("n 0 4 0 0 0\nx 1\n").line, 2);
-    assert_eq!(wrong("n 0 4 0 0\n").line, 1);
+    let wrong = |text: &str| show(text, None).expect_err("it is no listing");
+    let at = |line, why| Wrong::Line { line, why };
+    let line = |text: &str| match wrong(text) {
+        Wrong::Line { line, .. } => line,
+        Wrong::Step(why) => panic!("{why}"),
+    };
+    assert_eq!(
+        wrong("n 0 4 0 0 0\n"),
+        at(2, "the row d with the state is missing")
+    );
+    assert_eq!(line("n 0 4 0 0 0\nx 1\n"), 2);
+    assert_eq!(line("n 0 4 0 0\n"), 1);
     assert_eq!(
         wrong("n 0 4 0 0 1\nd 0 0 0\n"),
         at(1, "there is no such node")
@@ -166,13 +170,29 @@ fn what_is_no_listing_is_named() {
         wrong("n 0 26 0 0 0\nd 0 0 0\n"),
         at(1, "an operand is an earlier node")
     );
-    assert_eq!(wrong("n 1 4 0 0 0\n").line, 1);
+    assert_eq!(line("n 1 4 0 0 0\n"), 1);
     assert_eq!(
         wrong("s 0 3 0 0 0\n"),
         at(1, "a statement names a node of the list")
     );
-    assert_eq!(wrong("d 1 0 0\n").line, 1);
+    assert_eq!(line("d 1 0 0\n"), 1);
     assert_eq!(wrong("d 0 0 0\nr 2 0\n"), at(2, "there is no such refusal"));
-    assert_eq!(wrong("d 0 0 0\nd 0 0 0\n").line, 2);
+    assert_eq!(line("d 0 0 0\nd 0 0 0\n"), 2);
     assert_eq!(wrong("d 0 0 zero\n"), at(1, "fields are decimal numbers"));
+}
+
+#[test]
+fn a_failed_step_is_not_an_empty_stack() {
+    let why = |listing: &str| show(listing, None).expect_err("a step failed").to_string();
+    assert_eq!(
+        why("d 0 0 0\nr 12 0\n"),
+        "x87lift got no records: the step before it failed"
+    );
+    assert_eq!(
+        why(""),
+        "x87lift wrote nothing: the step before this one failed"
+    );
+    let failed = notes::Notes::failed("there is no function `f`");
+    let why = show("d 0 0 0\nr 12 0\n", Some(&failed)).expect_err("a step failed");
+    assert_eq!(why.to_string(), "x87rec failed: there is no function `f`");
 }

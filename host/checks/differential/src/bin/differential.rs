@@ -1,5 +1,5 @@
 //! `differential CALL [SIZE] [SEED]`: compare the static library with the
-//! Rust; for `records` and `checks` with document 01 said plainly, for
+//! Rust; for `records` and `checks` with their rules said plainly, for
 //! `record-lifts` with the two calls that it stands for, for `z3` and
 //! `cvc5` with that solver, for `images` with the processor. `x87lift` is
 //! the program, compared with the plain reader and the Rust. Ends with

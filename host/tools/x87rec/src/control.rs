@@ -1,0 +1,150 @@
+//! Instructions that depend on the control word, and that change it.
+
+use crate::address::width;
+use crate::line::Code;
+use crate::word::{Rounding, Word};
+
+/// Instructions that load the control word from where nothing is known of
+/// it; `fldcw` is looked at by itself.
+const LOADS: [&str; 7] = [
+    "fldenv",
+    "frstor",
+    "fxrstor",
+    "fxrstor64",
+    "xrstor",
+    "xrstor64",
+    "xrstors",
+];
+
+/// Instructions that reset it.
+const RESETS: [&str; 4] = ["finit", "fninit", "fsave", "fnsave"];
+
+/// Library functions that change it, by their names.
+const FUNCTIONS: [&str; 14] = [
+    "_control87",
+    "_controlfp",
+    "_controlfp_s",
+    "__control87_2",
+    "_fpreset",
+    "__setfpucw",
+    "feholdexcept",
+    "fesetenv",
+    "fesetmode",
+    "fesetprec",
+    "fesetround",
+    "feupdateenv",
+    "fpsetprec",
+    "fpsetround",
+];
+
+/// What an instruction takes from the control word.
+#[derive(Debug, Clone, Copy, PartialEq, Eq)]
+pub enum Takes {
+    Nothing,
+    Rounding,
+    RoundingAndPrecision,
+}
+
+/// What becomes of an instruction under a control word.
+#[derive(Debug, Clone, PartialEq, Eq)]
+pub enum Verdict {
+    /// It is what the lifter takes it for.
+    AsIs,
+    /// It truncates, and is lifted as this.
+    Truncates(&'static str),
+    /// The lifter must not model it, and why.
+    Declined(String),
+}
+
+/// Whether an instruction may change the control word, and to what.
+pub fn changed(code: &Code) -> Option<Word> {
+    let name = code.name.as_str();
+    if RESETS.contains(&name) {
+        return Some(Word::RESET);
+    }
+    let function = code.symbol().map_or("", plain_name);
+    let calls = code.is_call() && FUNCTIONS.contains(&function);
+    (LOADS.contains(&name) || calls).then_some(Word::UNKNOWN)
+}
+
+/// A symbol without its version, its library and what is added to it.
+fn plain_name(symbol: &str) -> &str {
+    let end = symbol.find(['@', '+', '-']).unwrap_or(symbol.len());
+    &symbol[..end]
+}
+
+/// What an instruction that the lifter models takes from the word. Loads,
+/// exact moves, sign changes and compares take nothing.
+pub fn takes(code: &Code) -> Takes {
+    let name = code.name.as_str();
+    let memory = code.operands.first().map_or(0, |text| width(text));
+    match name {
+        "fist" | "fistp" | "frndint" => Takes::Rounding,
+        "fst" | "fstp" if memory == 32 || memory == 64 => Takes::Rounding,
+        "fsqrt" => Takes::RoundingAndPrecision,
+        _ if is_arithmetic(name) => Takes::RoundingAndPrecision,
+        _ => Takes::Nothing,
+    }
+}
+
+/// `fadd`, `faddp`, `fiadd`, and so on.
+fn is_arithmetic(name: &str) -> bool {
+    let Some(rest) = name.strip_prefix('f') else {
+        return false;
+    };
+    let rest = rest.strip_prefix('i').unwrap_or(rest);
+    let rest = rest.strip_suffix('p').unwrap_or(rest);
+    matches!(rest, "add" | "sub" | "subr" | "mul" | "div" | "divr")
+}
+
+/// What becomes of an instruction under the word that was last changed at
+/// this address.
+pub fn verdict(code: &Code, word: Word, changed: Option<u64>) -> Verdict {
+    let takes = takes(code);
+    let loaded = changed.map_or(String::new(), |at| {
+        format!(", since the control word was changed at {at:x}")
+    });
+    if takes == Takes::Nothing {
+        return Verdict::AsIs;
+    }
+    match word.rounding() {
+        None => return Verdict::Declined(format!("its rounding is not known{loaded}")),
+        Some(Rounding::NearestEven) => {}
+        Some(Rounding::TowardZero) if code.name == "fistp" => {
+            return Verdict::Truncates("fisttp");
+        }
+        Some(rounding) => {
+            return Verdict::Declined(format!("it {}{loaded}", rounding.words()));
+        }
+    }
+    if takes == Takes::Rounding {
+        return Verdict::AsIs;
+    }
+    match word.precision() {
+        Some(64) => Verdict::AsIs,
+        Some(bits) => Verdict::Declined(format!("it is rounded to {bits} bits{loaded}")),
+        None => Verdict::Declined(format!("its precision is not known{loaded}")),
+    }
+}
+
+/// What is said of a `fldcw`.
+pub fn loaded(word: Word) -> String {
+    if word.is_entry() {
+        return "from here on the control word is that of the entry".to_owned();
+    }
+    match (word.rounding(), word.precision()) {
+        (None, _) => "from here on the rounding is not known".to_owned(),
+        (Some(rounding), None) => {
+            format!(
+                "from here on the code {}, precision not known",
+                rounding.words()
+            )
+        }
+        (Some(rounding), Some(bits)) => {
+            format!(
+                "from here on the code {}, precision {bits} bits",
+                rounding.words()
+            )
+        }
+    }
+}

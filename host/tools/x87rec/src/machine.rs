@@ -1,0 +1,602 @@
+//! What is known of the integer machine at a line: where the stack
+//! pointer is, which value each register has, what was stored of the
+//! control word, who wrote the flags.
+
+use std::collections::BTreeMap;
+
+use crate::address::{immediate, memory, width};
+use crate::control::changed;
+use crate::effects::{self, FLAGS};
+use crate::line::Code;
+use crate::names::{Part, RAX, RBP, RCX, RDX, REGISTERS, RSP, register};
+use crate::passing::passes;
+use crate::place::{Place, Term, Version, sum};
+use crate::word::Word;
+
+/// What a register or a place of memory holds.
+#[derive(Debug, Clone, Copy, PartialEq, Eq)]
+pub enum Value {
+    /// An address on the stack, counted from a stack pointer.
+    Stack(Version, i64),
+    /// In its lower 16 bits, so much of a control word.
+    Word(Word),
+    Unknown,
+}
+
+/// Who wrote a flag last.
+#[derive(Debug, Clone, Copy, PartialEq, Eq)]
+pub enum Writer {
+    Entry,
+    At(u64),
+    /// One instruction or another.
+    Several,
+}
+
+#[derive(Debug, Clone, Copy, PartialEq, Eq)]
+struct Register {
+    value: Value,
+    version: Version,
+}
+
+/// What was stored, and what was crossed since that could have changed it
+/// if it pointed there.
+#[derive(Debug, Clone, Copy, PartialEq, Eq)]
+struct Stored {
+    bytes: i64,
+    value: Value,
+    crossed: Option<u64>,
+}
+
+/// What is known at a line.
+#[derive(Debug, Clone, PartialEq, Eq)]
+pub struct Machine {
+    registers: [Register; REGISTERS],
+    memory: BTreeMap<Place, Stored>,
+    /// Whether an address on the stack was handed out, so that any store
+    /// may go there.
+    escaped: bool,
+    pub control: Word,
+    /// Where the control word was last changed.
+    pub changed: Option<u64>,
+    /// What the word that `fldcw` loaded was taken to survive.
+    pub crossed: Option<u64>,
+    pub flags: [Writer; FLAGS],
+    pub status: Writer,
+}
+
+/// What a call does to the stack pointer, and how wide that is.
+pub trait Calls {
+    /// The bytes of a stack entry.
+    fn word(&self) -> i64;
+    /// How many bytes a call takes from the stack, if that is known.
+    fn cleaned(&self, code: &Code) -> Option<i64>;
+}
+
+impl Machine {
+    /// What is known on entry to the code that begins at an address.
+    pub fn entry(address: u64) -> Self {
+        let version = Version::Entry(address);
+        let mut registers = [Register {
+            value: Value::Unknown,
+            version,
+        }; REGISTERS];
+        registers[RSP].value = Value::Stack(version, 0);
+        Self {
+            registers,
+            memory: BTreeMap::new(),
+            escaped: false,
+            control: Word::ENTRY,
+            changed: None,
+            crossed: None,
+            flags: [Writer::Entry; FLAGS],
+            status: Writer::Entry,
+        }
+    }
+
+    /// The stack pointer.
+    pub fn pointer(&self) -> Value {
+        self.registers[RSP].value
+    }
+
+    /// What is known on coming to an address, this way or another; whether
+    /// less is known now.
+    pub fn meet(&mut self, other: &Self, address: u64) -> bool {
+        let before = self.clone();
+        let here = Version::At(address);
+        for (number, (mine, other)) in self.registers.iter_mut().zip(&other.registers).enumerate() {
+            if mine != other {
+                mine.version = here;
+                mine.value = match (mine.value, other.value) {
+                    (Value::Word(a), Value::Word(b)) => Value::Word(a.meet(b)),
+                    (a, b) if a == b => a,
+                    _ if number == RSP => Value::Stack(here, 0),
+                    _ => Value::Unknown,
+                };
+            }
+        }
+        self.memory.retain(|place, stored| {
+            let same = other.memory.get(place);
+            same.is_some_and(|same| (same.bytes, same.value) == (stored.bytes, stored.value))
+        });
+        self.escaped |= other.escaped;
+        if self.control != other.control {
+            self.control = self.control.meet(other.control);
+            self.changed = Some(address);
+        }
+        self.crossed = self.crossed.or(other.crossed);
+        for (mine, other) in self.flags.iter_mut().zip(&other.flags) {
+            *mine = met(*mine, *other);
+        }
+        self.status = met(self.status, other.status);
+        *self != before
+    }
+
+    /// The place of a memory operand, as it is now.
+    pub fn place(&self, text: &str, code: &Code) -> Option<Place> {
+        let (address, symbol) = sum(text, code)?;
+        let mut place = Place {
+            stack: None,
+            symbol,
+            terms: Vec::new(),
+            offset: address.offset,
+        };
+        for (name, scale) in address.registers {
+            let (number, _) = register(&name)?;
+            let Register { value, version } = self.registers[number];
+            match value {
+                Value::Stack(base, offset) if scale == 1 && place.stack.is_none() => {
+                    place.stack = Some(base);
+                    place.offset += offset;
+                }
+                _ => place.terms.push(Term {
+                    name,
+                    version,
+                    scale,
+                }),
+            }
+        }
+        Some(place)
+    }
+
+    /// What is known behind an instruction.
+    pub fn step(&mut self, code: &Code, calls: &dyn Calls) {
+        let at = code.address;
+        for (flag, writer) in effects::flags(code).into_iter().zip(&mut self.flags) {
+            if flag {
+                *writer = Writer::At(at);
+            }
+        }
+        if effects::writes_status(code) {
+            self.status = Writer::At(at);
+        }
+        if let Some(word) = changed(code) {
+            self.load_control(word, at, None);
+        }
+        match code.name.as_str() {
+            "push" => self.push(code, entry_bytes(code, calls)),
+            "pop" => self.pop(code, entry_bytes(code, calls)),
+            "call" => self.call(code, calls),
+            "leave" => {
+                self.registers[RSP].value = self.registers[RBP].value;
+                self.settle(at);
+                self.take(RBP, at, calls.word());
+            }
+            "mov" | "movzx" | "lea" => self.moves(code),
+            "add" | "sub" | "or" | "and" | "xor" => self.computes(code),
+            name if name.starts_with('f') || name == "wait" => self.x87(code),
+            name if passes(name, &code.operands) => self.writes(code),
+            _ if code.is_return() || code.name.starts_with('j') => {}
+            _ => self.anything(code),
+        }
+    }
+
+    fn load_control(&mut self, word: Word, at: u64, crossed: Option<u64>) {
+        self.control = word;
+        self.changed = Some(at);
+        self.crossed = crossed;
+    }
+
+    fn push(&mut self, code: &Code, bytes: i64) {
+        let value = self.operand(code, 0);
+        self.escaped |= matches!(value, Value::Stack(..));
+        self.move_pointer(-bytes, code.address);
+        let top = self.top();
+        self.write(top, bytes, value, code.address);
+    }
+
+    fn pop(&mut self, code: &Code, bytes: i64) {
+        match code.operands.first().and_then(|text| register(text)) {
+            Some((number, Part::Whole)) => self.take(number, code.address, bytes),
+            _ => {
+                self.writes(code);
+                self.move_pointer(bytes, code.address);
+            }
+        }
+    }
+
+    /// Take the top of the stack into a register.
+    fn take(&mut self, number: usize, at: u64, bytes: i64) {
+        let value = self
+            .top()
+            .map_or(Value::Unknown, |top| self.read(&top, bytes));
+        self.move_pointer(bytes, at);
+        self.set(number, value, at);
+    }
+
+    /// The place that the stack pointer points to.
+    fn top(&self) -> Option<Place> {
+        match self.pointer() {
+            Value::Stack(base, offset) => Some(Place {
+                stack: Some(base),
+                symbol: None,
+                terms: Vec::new(),
+                offset,
+            }),
+            _ => None,
+        }
+    }
+
+    fn move_pointer(&mut self, bytes: i64, at: u64) {
+        if let Value::Stack(base, offset) = self.pointer() {
+            self.registers[RSP].value = Value::Stack(base, offset + bytes);
+        }
+        self.settle(at);
+    }
+
+    /// A stack pointer that is not known is one of its own.
+    fn settle(&mut self, at: u64) {
+        let pointer = &mut self.registers[RSP];
+        if !matches!(pointer.value, Value::Stack(..)) {
+            pointer.value = Value::Stack(Version::Behind(at), 0);
+        }
+    }
+
+    /// A call keeps what the calling convention says is kept: `rbx`,
+    /// `rbp`, `rsi`, `rdi`, its caller's places of the stack and the
+    /// control word.
+    fn call(&mut self, code: &Code, calls: &dyn Calls) {
+        let at = code.address;
+        for number in [RAX, RCX, RDX] {
+            self.set(number, Value::Unknown, at);
+        }
+        let pointer = self.pointer();
+        let escaped = self.escaped;
+        self.memory.retain(|place, stored| {
+            stored.crossed = stored.crossed.or(Some(at));
+            let below = match (pointer, place.stack) {
+                (Value::Stack(base, offset), Some(stack)) => base != stack || place.offset < offset,
+                _ => true,
+            };
+            !escaped && place.is_on_stack() && !below
+        });
+        match calls.cleaned(code) {
+            Some(bytes) => self.move_pointer(bytes, at),
+            None => {
+                self.registers[RSP].value = Value::Unknown;
+                self.settle(at);
+            }
+        }
+    }
+
+    fn x87(&mut self, code: &Code) {
+        let Some(text) = code.operands.first() else {
+            return;
+        };
+        if code.name.ends_with("stsw") && register(text).is_some() {
+            self.set(RAX, Value::Unknown, code.address);
+        }
+        let Some(text) = memory(text) else { return };
+        let place = self.place(&text, code);
+        if code.name == "fldcw" {
+            let stored = place.and_then(|place| self.memory.get(&place).copied());
+            let (word, crossed) = match stored {
+                Some(Stored {
+                    value: Value::Word(word),
+                    bytes,
+                    crossed,
+                }) if bytes >= 2 => (word, crossed),
+                _ => (Word::UNKNOWN, None),
+            };
+            self.load_control(word, code.address, crossed);
+        } else if effects::stores(code) {
+            let value = match code.name.as_str() {
+                "fnstcw" | "fstcw" => Value::Word(self.control),
+                _ => Value::Unknown,
+            };
+            self.write(place, bytes(&text), value, code.address);
+        }
+    }
+
+    /// `mov`, `movzx` and `lea`.
+    fn moves(&mut self, code: &Code) {
+        let value = match (code.name.as_str(), code.operands.get(1)) {
+            ("lea", Some(text)) => self.effective(text, code),
+            _ => self.operand(code, 1),
+        };
+        let to_frame = matches!(
+            code.operands.first().and_then(|t| register(t)),
+            Some((RBP | RSP, _))
+        );
+        self.escaped |= matches!(value, Value::Stack(..)) && !to_frame;
+        self.put(code, 0, value);
+    }
+
+    /// The address that `lea` gives.
+    fn effective(&self, text: &str, code: &Code) -> Value {
+        let place = memory(text).and_then(|text| self.place(&text, code));
+        match place {
+            Some(place) if place.is_on_stack() => {
+                let base = place.stack.expect("it is on the stack");
+                Value::Stack(base, place.offset)
+            }
+            _ => Value::Unknown,
+        }
+    }
+
+    /// `add`, `sub`, `or`, `and` and `xor`.
+    fn computes(&mut self, code: &Code) {
+        let same = code.operands.first() == code.operands.get(1);
+        if code.name == "xor" && same {
+            return self.put(code, 0, Value::Word(Word::constant(0)));
+        }
+        let constant = code.operands.get(1).and_then(|text| immediate(text));
+        let Some(constant) = constant else {
+            return self.put(code, 0, Value::Unknown);
+        };
+        let signed = constant.cast_signed();
+        let shift = self.byte(code);
+        let bits = u16::try_from(constant & 0xffff).expect("16 bits");
+        let (bits, mask) = match shift {
+            Some(shift) => ((bits & 0xff) << shift, 0xff << shift),
+            None => (bits, u16::MAX),
+        };
+        let old = self.whole(code);
+        let word = word_of(old);
+        let value = match (code.name.as_str(), old) {
+            ("add", Value::Stack(base, offset)) => Value::Stack(base, offset + low(signed)),
+            ("sub", Value::Stack(base, offset)) => Value::Stack(base, offset - low(signed)),
+            ("or", _) => Value::Word(word.or(bits)),
+            ("and", _) => Value::Word(word.and(bits | !mask)),
+            ("xor", _) => Value::Word(word.xor(bits)),
+            _ => Value::Unknown,
+        };
+        self.put_whole(code, value);
+    }
+
+    /// Where in a word the byte lies that the first operand is.
+    fn byte(&self, code: &Code) -> Option<u32> {
+        let text = code.operands.first()?;
+        match register(&text.to_ascii_lowercase()) {
+            Some((_, Part::Low)) => return Some(0),
+            Some((_, Part::High)) => return Some(8),
+            Some(_) => return None,
+            None => {}
+        }
+        if width(text) != 8 {
+            return None;
+        }
+        let (_, within) = self.holding(code)?;
+        Some(8 * within)
+    }
+
+    /// The stored word that holds the byte which the first operand is, and
+    /// whether it is the lower or the upper one.
+    fn holding(&self, code: &Code) -> Option<(Place, u32)> {
+        let text = memory(code.operands.first()?)?;
+        let place = self.place(&text, code)?;
+        let below = Place {
+            offset: place.offset - 1,
+            ..place.clone()
+        };
+        let is_word = |place: &Place| {
+            let stored = self.memory.get(place);
+            stored.is_some_and(|stored| matches!(stored.value, Value::Word(_)))
+        };
+        if is_word(&place) {
+            return Some((place, 0));
+        }
+        is_word(&below).then_some((below, 1))
+    }
+
+    /// The value of all that the first operand is a part of.
+    fn whole(&self, code: &Code) -> Value {
+        let Some(text) = code.operands.first() else {
+            return Value::Unknown;
+        };
+        match register(&text.to_ascii_lowercase()) {
+            Some((number, _)) => self.registers[number].value,
+            None if width(text) == 8 => {
+                let held = self
+                    .holding(code)
+                    .and_then(|(place, _)| self.memory.get(&place));
+                held.map_or(Value::Unknown, |stored| stored.value)
+            }
+            None => self.operand(code, 0),
+        }
+    }
+
+    /// Change all that the first operand is a part of.
+    fn put_whole(&mut self, code: &Code, value: Value) {
+        let text = &code.operands[0];
+        if let Some((number, _)) = register(&text.to_ascii_lowercase()) {
+            return self.set(number, value, code.address);
+        }
+        match self.holding(code) {
+            Some((place, _)) if width(text) == 8 => {
+                let stored = self.memory.get_mut(&place).expect("it is held");
+                stored.value = value;
+            }
+            _ => self.put(code, 0, value),
+        }
+    }
+
+    /// The value of an operand.
+    fn operand(&self, code: &Code, number: usize) -> Value {
+        let Some(text) = code.operands.get(number) else {
+            return Value::Unknown;
+        };
+        let lower = text.to_ascii_lowercase();
+        match register(&lower) {
+            Some((number, Part::Whole | Part::Word)) => return self.registers[number].value,
+            Some(_) => return Value::Unknown,
+            None => {}
+        }
+        if let Some(constant) = immediate(&lower) {
+            let bits = u16::try_from(constant & 0xffff).expect("16 bits");
+            return Value::Word(Word::constant(bits));
+        }
+        let Some(text) = memory(text) else {
+            return Value::Unknown;
+        };
+        let place = self.place(&text, code);
+        place.map_or(Value::Unknown, |place| self.read(&place, bytes(&text)))
+    }
+
+    fn read(&self, place: &Place, bytes: i64) -> Value {
+        match self.memory.get(place) {
+            Some(stored) if stored.bytes >= bytes => stored.value,
+            Some(Stored {
+                value: Value::Word(word),
+                bytes: 2..,
+                ..
+            }) if bytes >= 2 => Value::Word(*word),
+            _ => Value::Unknown,
+        }
+    }
+
+    /// Write an operand.
+    fn put(&mut self, code: &Code, number: usize, value: Value) {
+        let Some(text) = code.operands.get(number) else {
+            return;
+        };
+        let at = code.address;
+        match register(&text.to_ascii_lowercase()) {
+            Some((register, Part::Whole)) => return self.set(register, value, at),
+            Some((register, part)) => return self.set_part(register, part, value, at),
+            None => {}
+        }
+        if let Some(text) = memory(text) {
+            let place = self.place(&text, code);
+            self.write(place, bytes(&text), value, at);
+        } else if crate::address::in_segment(text) {
+            self.write(None, 0, value, at);
+        }
+    }
+
+    fn set(&mut self, number: usize, value: Value, at: u64) {
+        self.registers[number] = Register {
+            value,
+            version: Version::Behind(at),
+        };
+        self.settle(at);
+    }
+
+    /// Write a part of a register, which is 16 bits or 8 of them.
+    fn set_part(&mut self, number: usize, part: Part, value: Value, at: u64) {
+        let (mask, shift) = match part {
+            Part::Low => (0xff, 0),
+            Part::High => (0xff00, 8),
+            _ => (u16::MAX, 0),
+        };
+        let old = word_of(self.registers[number].value);
+        let whole = match value {
+            Value::Word(word) if mask == u16::MAX => Value::Word(word),
+            Value::Word(word) => match word.is_constant() {
+                Some(bits) => Value::Word(old.with(mask, bits << shift)),
+                None => Value::Unknown,
+            },
+            _ => Value::Unknown,
+        };
+        self.set(number, whole, at);
+    }
+
+    /// Write memory; without a place it may be any.
+    fn write(&mut self, place: Option<Place>, bytes: i64, value: Value, at: u64) {
+        let escaped = self.escaped;
+        self.memory.retain(|old, stored| {
+            let Some(place) = &place else {
+                stored.crossed = stored.crossed.or(Some(at));
+                return old.is_on_stack() && !escaped;
+            };
+            if place.is_beside(old) {
+                return old.offset + stored.bytes <= place.offset
+                    || place.offset + bytes <= old.offset;
+            }
+            let apart = place.stack.is_some() != old.stack.is_some() && !escaped;
+            stored.crossed = stored.crossed.or(Some(at));
+            apart
+        });
+        if let Some(place) = place.filter(|_| value != Value::Unknown) {
+            let stored = Stored {
+                bytes,
+                value,
+                crossed: None,
+            };
+            self.memory.insert(place, stored);
+        }
+    }
+
+    /// An instruction of which no more is known than what it writes.
+    fn writes(&mut self, code: &Code) {
+        for number in effects::operands(code) {
+            self.put(code, number, Value::Unknown);
+        }
+        for number in effects::registers(code) {
+            self.set(number, Value::Unknown, code.address);
+        }
+        if effects::writes_anywhere(code) {
+            self.write(None, 0, Value::Unknown, code.address);
+        }
+    }
+
+    /// An instruction of which nothing is known; one with vector registers
+    /// still leaves the control word alone.
+    fn anything(&mut self, code: &Code) {
+        for number in 0..REGISTERS {
+            self.set(number, Value::Unknown, code.address);
+        }
+        self.memory.clear();
+        self.flags = [Writer::At(code.address); FLAGS];
+        self.status = Writer::At(code.address);
+        if !effects::keeps_control(code) {
+            self.load_control(Word::UNKNOWN, code.address, None);
+        }
+    }
+}
+
+/// So much of a control word as a value is.
+fn word_of(value: Value) -> Word {
+    match value {
+        Value::Word(word) => word,
+        _ => Word::UNKNOWN,
+    }
+}
+
+fn met(mine: Writer, other: Writer) -> Writer {
+    if mine == other { mine } else { Writer::Several }
+}
+
+/// The bytes that a push or a pop moves the stack pointer by.
+fn entry_bytes(code: &Code, calls: &dyn Calls) -> i64 {
+    let operand = code.operands.first().map(|text| text.to_ascii_lowercase());
+    let short = operand
+        .is_some_and(|text| width(&text) == 16 || matches!(register(&text), Some((_, Part::Word))));
+    if short { 2 } else { calls.word() }
+}
+
+/// The bytes of a memory operand; where its size does not stand there, as
+/// many as any has.
+fn bytes(text: &str) -> i64 {
+    match width(text) {
+        0 => 108,
+        bits => i64::from(bits) / 8,
+    }
+}
+
+/// A constant of 32 bits with its sign.
+fn low(constant: i64) -> i64 {
+    match u32::try_from(constant) {
+        Ok(word) => i64::from(word.cast_signed()),
+        Err(_) => constant,
+    }
+}

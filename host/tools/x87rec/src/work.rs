@@ -1,0 +1,334 @@
+//! A translation under way.
+
+use std::collections::HashMap;
+
+use notes::{Event, Notes, Record, What};
+use sleetgate::{Instruction, write_record};
+
+use crate::control::{Verdict, loaded, verdict};
+use crate::effects::{FLAG_COMPARES, FLAG_NAMES, reads, reads_status};
+use crate::flow::Callees;
+use crate::line::Code;
+use crate::machine::{Calls, Machine, Writer};
+use crate::operand::Numbering;
+use crate::passing::passes;
+use crate::path::{End, Step, Way};
+use crate::{Options, Translated, Wrong};
+
+/// The name of a record that stands for an entry from elsewhere.
+const ENTRY: &str = "entry";
+
+/// What stands before the name of an instruction that the lifter must not
+/// model: no name that it knows begins so.
+const UNMODELLED: char = '?';
+
+/// Compares that the lifter models, by which the status word is known.
+const STATUS_COMPARES: [&str; 8] = [
+    "fcom", "fcomp", "fcompp", "fucom", "fucomp", "fucompp", "ficom", "ficomp",
+];
+
+/// Instructions that store or load the control word alone.
+const CONTROL: [&str; 3] = ["fldcw", "fnstcw", "fstcw"];
+
+pub struct Work<'a> {
+    done: Translated,
+    numbering: Numbering,
+    /// Whether the lifter has no stack to carry on: at the beginning, and
+    /// after a record that it is sure to decline.
+    forgotten: bool,
+    /// Whether the next instruction does not follow on the last, and the
+    /// symbol that stands before it.
+    broken: bool,
+    symbol: Option<String>,
+    /// Whether a call was met.
+    called: bool,
+    names: HashMap<u64, &'a str>,
+    callees: &'a Callees,
+    options: &'a Options,
+}
+
+impl<'a> Work<'a> {
+    pub fn new(
+        options: &'a Options,
+        callees: &'a Callees,
+        code: impl Iterator<Item = &'a Code>,
+    ) -> Self {
+        Self {
+            done: Translated::default(),
+            numbering: Numbering::default(),
+            forgotten: true,
+            broken: false,
+            symbol: None,
+            called: false,
+            names: code
+                .map(|code| (code.address, code.name.as_str()))
+                .collect(),
+            callees,
+            options,
+        }
+    }
+
+    /// The next instruction does not follow on the last.
+    pub fn broken(&mut self, symbol: Option<&str>) {
+        self.broken = true;
+        self.symbol = symbol.map(str::to_owned);
+    }
+
+    /// A line of the whole text.
+    pub fn line(&mut self, code: &Code, machine: &Machine, target: bool) -> Result<(), Wrong> {
+        let entered = std::mem::take(&mut self.broken) || target;
+        if entered && !self.forgotten {
+            self.entry(code.address);
+        }
+        if let Some(symbol) = self.symbol.take() {
+            self.event(code.address, What::Begin(symbol));
+        }
+        if code.is_return() {
+            self.stack(code, "a return, with this stack");
+        } else if code.is_indirect() {
+            let words = "goes where the text does not tell: \
+                         formulas at its targets may not be those of the lines before them";
+            self.remark(code, words);
+        } else if code.is_conditional() && !self.options.every {
+            self.remark(code, "what follows holds where it is not taken");
+        }
+        self.code(code, machine, false)
+    }
+
+    /// A line of a way.
+    pub fn step(&mut self, step: &Step, machine: &Machine) -> Result<(), Wrong> {
+        let code = &step.code;
+        match step.taken {
+            Some(true) => self.remark(code, "taken"),
+            Some(false) => self.remark(code, "not taken"),
+            None => {}
+        }
+        self.code(code, machine, true)
+    }
+
+    fn code(&mut self, code: &Code, machine: &Machine, followed: bool) -> Result<(), Wrong> {
+        self.done.lines += 1;
+        let jumps = code.name.starts_with('j') && !code.is_indirect() || code.is_conditional();
+        let goes_on = followed && (jumps || code.is_return());
+        let control = CONTROL.contains(&code.name.as_str()) && !self.options.assume_reset;
+        let passes = goes_on || control || passes(&code.name, &code.operands);
+        if code.name == "fldcw" && control {
+            self.loads(code, machine);
+        }
+        if passes && !self.options.every {
+            *self.done.passed.entry(code.name.clone()).or_default() += 1;
+            return Ok(());
+        }
+        self.record(code, machine)
+    }
+
+    /// Hand an instruction over, as what it is under the control word.
+    fn record(&mut self, code: &Code, machine: &Machine) -> Result<(), Wrong> {
+        let mut insn = self.numbering.instruction(code, machine)?;
+        let mut why = None;
+        if !self.options.assume_reset {
+            match verdict(code, machine.control, machine.changed) {
+                Verdict::AsIs => {}
+                Verdict::Truncates(name) => {
+                    let words = format!("rounds toward zero here, and is lifted as {name}");
+                    self.remark(code, &words);
+                    insn.mnemonic = name.to_owned();
+                }
+                Verdict::Declined(words) => {
+                    insn = Instruction::new(code.address, format!("{UNMODELLED}{}", code.name), []);
+                    why = Some(words);
+                }
+            }
+        }
+        let record = Record {
+            bytes: bytes(&insn),
+            text: code.text(),
+            why,
+            reads: self.reads(code, machine),
+        };
+        // All names that the lifter models begin with an `f`.
+        self.forgotten = !insn.mnemonic.starts_with('f');
+        self.event(code.address, What::Record(record));
+        if code.is_call() {
+            self.called = true;
+            self.doubt(code);
+        }
+        Ok(())
+    }
+
+    /// Who wrote what an instruction reads.
+    fn reads(&self, code: &Code, machine: &Machine) -> Vec<(String, String)> {
+        let mut all = Vec::new();
+        let flags = FLAG_NAMES.iter().zip(machine.flags);
+        for ((name, writer), read) in flags.zip(reads(&code.name)) {
+            if read {
+                let words = self.written(writer, &FLAG_COMPARES);
+                all.push(((*name).to_owned(), words));
+            }
+        }
+        if reads_status(&code.name) {
+            let words = self.written(machine.status, &STATUS_COMPARES);
+            all.push(("fsw".to_owned(), words));
+        }
+        all
+    }
+
+    fn written(&self, writer: Writer, compares: &[&str]) -> String {
+        let address = match writer {
+            Writer::Entry => return "as it was on entry".to_owned(),
+            Writer::Several => return "which the text does not know".to_owned(),
+            Writer::At(address) => address,
+        };
+        let name = self
+            .names
+            .get(&address)
+            .copied()
+            .unwrap_or("the instruction");
+        if compares.contains(&name) {
+            format!("as {name} at {address:x} wrote it")
+        } else if name.starts_with('f') || name == "call" {
+            format!("as {name} at {address:x} left it: not modelled")
+        } else {
+            format!("as {name} at {address:x} wrote it: integer code")
+        }
+    }
+
+    /// What `fldcw` loads.
+    fn loads(&mut self, code: &Code, machine: &Machine) {
+        let mut behind = machine.clone();
+        behind.step(code, self.callees);
+        let mut words = loaded(behind.control);
+        if let Some(crossed) = behind.crossed {
+            words += &format!(", if {crossed:x} did not write where that word is kept");
+        }
+        self.remark(code, &words);
+    }
+
+    /// Say where the stack pointer is no longer known.
+    fn doubt(&mut self, code: &Code) {
+        if self.callees.is_doubtful(code) {
+            let pointer = self.pointer();
+            let words = format!(
+                "may take its arguments from the stack: {pointer} is not known behind it, \
+                 and places are counted from {pointer}@{:x}",
+                code.address
+            );
+            self.remark(code, &words);
+        }
+    }
+
+    fn pointer(&self) -> &'static str {
+        if self.callees.word() == 8 {
+            "rsp"
+        } else {
+            "esp"
+        }
+    }
+
+    /// How a way ends.
+    pub fn end(&mut self, way: &Way) {
+        let Some(last) = way.steps.last() else {
+            return;
+        };
+        let words = match way.end {
+            End::Return => "the way ends here, at the return, with this stack".to_owned(),
+            End::Again(line) => format!(
+                "the way comes to {line:x} again and ends here, which is no return; the stack is then"
+            ),
+            End::Leaves => "the way leaves the code that was asked for and ends here, which is no \
+                            return: what is given back is decided there; the stack is then"
+                .to_owned(),
+            End::Indirect => "goes where the text does not tell, and the way ends here, which is \
+                              no return; the stack is then"
+                .to_owned(),
+            End::Off => {
+                "the text ends behind this line, which is no return; the stack is then".to_owned()
+            }
+        };
+        self.stack(&last.code, &words);
+    }
+
+    /// The end of a text that does not end at a return.
+    pub fn off(&mut self, last: Option<&Code>) {
+        let records = self.done.notes.records().count();
+        if let Some(last) = last.filter(|_| !self.forgotten || records == 0) {
+            self.stack(last, "the text ends here, with this stack");
+        }
+    }
+
+    fn entry(&mut self, address: u64) {
+        let entry = Instruction::new(address, ENTRY, []);
+        let record = Record {
+            bytes: bytes(&entry),
+            text: String::new(),
+            why: Some("entered from elsewhere".to_owned()),
+            reads: Vec::new(),
+        };
+        self.event(address, What::Record(record));
+        self.done.entries += 1;
+        self.forgotten = true;
+    }
+
+    fn remark(&mut self, code: &Code, words: &str) {
+        let words = format!("{}: {words}", code.text());
+        self.event(code.address, What::Remark(words));
+    }
+
+    fn stack(&mut self, code: &Code, words: &str) {
+        let words = format!("{}: {words}", code.text());
+        self.event(code.address, What::Stack(words));
+    }
+
+    fn event(&mut self, address: u64, what: What) {
+        self.done.notes.events.push(Event { address, what });
+    }
+
+    /// The translation, with these words on what was followed.
+    pub fn done(mut self, followed: &str) -> Translated {
+        let pointer = self.pointer();
+        let mut head = vec![if self.options.assume_reset {
+            "assume-reset: every rounding is shown as to nearest even with extended precision, \
+             whatever the code loads into the control word"
+                .to_owned()
+        } else {
+            "assumed: on entry the control word rounds to nearest even with extended precision \
+             (64 bits); with another word no formula here need hold"
+                .to_owned()
+        }];
+        head.push(followed.to_owned());
+        let addresses = self.numbering.texts(pointer);
+        if self.numbering.names_entry() {
+            head.push(format!(
+                "{pointer}0 is the stack pointer on entry, where the return address is"
+            ));
+        }
+        if addresses.iter().any(|text| text.contains('@')) {
+            head.push(
+                "a register @ an address is as the instruction there left it, @@ as it is on \
+                 coming there"
+                    .to_owned(),
+            );
+        }
+        if self.called {
+            head.push(
+                "calls are taken to keep what the calling convention keeps: the control word, \
+                 rbx, rbp, rsi, rdi, and their caller's places on the stack"
+                    .to_owned(),
+            );
+        }
+        self.done.notes = Notes {
+            failed: None,
+            head,
+            addresses,
+            events: self.done.notes.events,
+        };
+        self.done
+    }
+}
+
+/// The record of an instruction.
+fn bytes(insn: &Instruction) -> Vec<u8> {
+    let mut bytes = Vec::new();
+    write_record(insn, &mut bytes).expect("texts are short and operands are few");
+    bytes
+}
