@@ -13,6 +13,10 @@ pub enum Value {
     Float(u128, u32),
     /// Bits with their width.
     Bits(u128, u32),
+    /// An 80-bit image that was loaded, and what the register held then.
+    Image(u128, Extended),
+    /// What a register holds where an image is no number.
+    Held,
     /// A constant without a width.
     Whole(u128),
     Truth(bool),
@@ -307,17 +311,20 @@ fn function(name: &str, of: Value) -> Result<Value, String> {
 /// The number of an 80-bit image, or the second value where it is none:
 /// where the integer bit is not set exactly if the exponent is not 0.
 fn joined(name: &str, first: Value, second: Value) -> Result<Value, String> {
-    let ("number", Value::Bits(image, 80)) = (name, first) else {
+    let ("number", Value::Image(image, held)) = (name, first) else {
         return Err(format!("what is {name} of {first:?}?"));
     };
     let (exponent, integer) = (image >> 64 & 0x7fff, image >> 63 & 1);
-    if (exponent == 0) == (integer == 1) {
-        return second.number().map(Value::Number);
+    if (exponent == 0) == (integer == 0) {
+        let number = Extended::of_pattern(image, 80);
+        return number
+            .map(Value::Number)
+            .ok_or("an image has 80 bits".to_owned());
     }
-    let number = Extended::of_pattern(image, 80);
-    number
-        .map(Value::Number)
-        .ok_or_else(|| "an image has 80 bits".to_owned())
+    match second {
+        Value::Held => Ok(Value::Number(held)),
+        second => second.number().map(Value::Number),
+    }
 }
 
 #[cfg(test)]
@@ -331,6 +338,8 @@ mod tests {
         Value::Number(number.expect("64 bits"))
     }
 
+    const NINE: Extended = Extended([9; 10]);
+
     fn known() -> HashMap<String, Value> {
         let names = [
             ("m0", Value::Bits(2.5_f32.to_bits().into(), 32)),
@@ -338,8 +347,9 @@ mod tests {
             ("CF1", Value::Truth(true)),
             ("in0", number(-4.0)),
             ("in1", Value::Bits(0xffff, 16)),
-            ("m2", Value::Bits(0x3fff << 64 | 1, 80)),
-            ("m3", Value::Bits(0x3fff << 64 | 1 << 63, 80)),
+            ("m2", Value::Image(0x3fff << 64 | 1, NINE)),
+            ("m3", Value::Image(0x3fff << 64 | 1 << 63, NINE)),
+            ("in2", Value::Held),
         ];
         names.map(|(name, value)| (name.to_owned(), value)).into()
     }
@@ -358,6 +368,7 @@ mod tests {
             ("round(in0 - 0.5)", number(-4.0)),
             ("f32(m0)", Value::Float(2.5_f32.to_bits().into(), 32)),
             ("number(m2, in0)", number(-4.0)),
+            ("number(m2, in2)", Value::Number(NINE)),
             ("number(m3, in0)", number(1.0)),
             ("5*2^-1", number(2.5)),
             (

@@ -4,7 +4,8 @@
 //! took. Two lines that follow each other at one address are of one visit,
 //! unless the second tells a jump's decision: between two visits of an
 //! instruction there is a conditional jump, and each has its line. A `let`
-//! may stand for an earlier instruction and moves nothing.
+//! and the words that say what an input is stand for an earlier
+//! instruction, above the line that needs them: they are read with it.
 //!
 //! What the text loads, or does not know, is taken from the run; what it
 //! says of stores, flags, status words, `ax` and the stack is compared.
@@ -40,10 +41,15 @@ pub struct Beside<'a> {
 ///
 /// # Errors
 /// The first line that is not what the machine did.
-pub fn compare(text: &str, beside: Beside, counts: &mut Counts) -> Result<(), String> {
+pub fn compare<'a>(
+    text: &'a str,
+    beside: Beside<'a>,
+    counts: &'a mut Counts,
+) -> Result<(), String> {
     let mut reading = Reading {
         beside,
         at: 0,
+        waiting: Vec::new(),
         known: HashMap::new(),
         written: HashMap::new(),
         places: HashMap::new(),
@@ -62,6 +68,8 @@ struct Reading<'a> {
     beside: Beside<'a>,
     /// The visit of the line before.
     at: usize,
+    /// Lines that are read with the next one.
+    waiting: Vec<&'a str>,
     known: HashMap<String, Value>,
     /// What the text last said of a flag or the status word, and at which
     /// address.
@@ -78,26 +86,46 @@ struct Reading<'a> {
 
 type Told = Result<(), String>;
 
-impl Reading<'_> {
-    fn line(&mut self, line: &str) -> Told {
-        if line.starts_with("--") || line.is_empty() {
+impl<'a> Reading<'a> {
+    fn line(&mut self, line: &'a str) -> Told {
+        if line.starts_with("--") {
             return Ok(());
         }
         let (address, body) = line.split_once(": ").ok_or("no address")?;
         let address = hexadecimal(address.trim()).ok_or("no address")?;
-        if let Some(part) = body.strip_prefix("let ") {
-            let (name, formula) = part.split_once(" = ").ok_or("no formula")?;
-            let value = self.value(formula)?;
-            self.known.insert(name.to_owned(), value);
+        if body.starts_with("let ") || input(body).is_some() {
+            self.waiting.push(body);
             return Ok(());
         }
         let decision = decision(body);
         self.go_to(address, decision.is_some())?;
-        if let Some(taken) = decision {
-            return self.jump(taken);
+        for waiting in std::mem::take(&mut self.waiting) {
+            self.part(waiting)?;
         }
-        if let Some(remark) = body.strip_prefix("-- ") {
-            return self.remark(remark);
+        match decision {
+            Some(taken) => self.jump(taken),
+            None => self.body(body),
+        }
+    }
+
+    /// A part of the line's formula, or an input in it.
+    fn part(&mut self, part: &str) -> Told {
+        let (name, value) = if let Some((name, what)) = input(part) {
+            self.count("inputs");
+            (name, self.input(what)?)
+        } else {
+            let part = part.strip_prefix("let ").ok_or("what is this?")?;
+            let (name, formula) = part.split_once(" = ").ok_or("no formula")?;
+            (name, self.value(formula)?)
+        };
+        self.known.insert(name.to_owned(), value);
+        Ok(())
+    }
+
+    fn body(&mut self, body: &str) -> Told {
+        if let Some(words) = body.strip_prefix("-- ") {
+            self.forgotten |= words.ends_with("the stack is forgotten here");
+            return Ok(());
         }
         if let Some((place, formula)) = body.split_once(" = ")
             && place.starts_with("st(")
@@ -172,39 +200,25 @@ impl Reading<'_> {
         same(told, taken)
     }
 
-    fn remark(&mut self, remark: &str) -> Told {
-        self.forgotten |= remark.contains("forgotten");
-        let Some((name, what)) = remark.split_once(" is ").filter(|(name, _)| is_input(name))
-        else {
-            return Ok(());
-        };
-        let value = if what == "the rest of the status word" {
-            Value::Bits(self.behind().status.into(), 16)
+    /// What an input is: what a place of the stack held on entry or behind
+    /// an instruction, or what the line's own instruction left.
+    fn input(&self, what: &str) -> Result<Value, String> {
+        if what == "the rest of the status word" {
+            return Ok(Value::Bits(self.behind().status.into(), 16));
+        }
+        if what == "the number where the 80 bits that are loaded are none" {
+            return Ok(Value::Held);
+        }
+        let (place, step) = if let Some(place) = what.strip_suffix(" on entry") {
+            (place, &self.beside.run.steps[self.beside.visits[0]])
         } else {
-            Value::Number(self.input(what)?.ok_or("an empty place of the stack")?)
-        };
-        self.count("inputs");
-        self.known.insert(name.to_owned(), value);
-        Ok(())
-    }
-
-    /// What a place of the stack held on entry, behind an instruction, or
-    /// behind this one.
-    fn input(&self, what: &str) -> Result<Option<crate::extended::Extended>, String> {
-        let place = |text: &str| place_of_stack(text).ok_or("which place?");
-        if let Some(text) = what.strip_suffix(" on entry") {
-            let entry = self.beside.visits[0];
-            return Ok(self.beside.run.steps[entry].st(place(text)?));
-        }
-        if let Some((text, address)) = what.split_once(" behind ") {
+            let (place, address) = what.split_once(" behind ").ok_or("what is this input?")?;
             let address = hexadecimal(address).ok_or("behind what?")?;
-            return Ok(self.behind_last(address)?.st(place(text)?));
-        }
-        let held = what
-            .strip_prefix("what ")
-            .and_then(|what| what.split_once(" holds where "));
-        let (text, _) = held.ok_or("what is this input?")?;
-        Ok(self.behind().st(place(text)?))
+            (place, self.behind_last(address)?)
+        };
+        let place = place_of_stack(place).ok_or("which place?")?;
+        let held = step.st(place).ok_or("an empty place of the stack")?;
+        Ok(Value::Number(held))
     }
 
     fn stack(&mut self, text: &str, formula: &str) -> Told {
@@ -313,9 +327,13 @@ impl Reading<'_> {
         let (address, bits) = self.place(place)?;
         same(width, Some(bits))?;
         let at = self.beside.visits[self.at];
-        let value = self.memory(at, address, bits)?;
+        let loaded = self.memory(at, address, bits)?;
+        let value = match self.behind().st(0) {
+            Some(held) if bits == 80 => Value::Image(loaded, held),
+            _ => Value::Bits(loaded, bits),
+        };
         self.count("loads");
-        self.known.insert(name.to_owned(), Value::Bits(value, bits));
+        self.known.insert(name.to_owned(), value);
         Ok(())
     }
 
@@ -364,9 +382,9 @@ impl Reading<'_> {
         }
     }
 
-    /// Each visit that touches memory by an x87 instruction, or decides,
-    /// has a line; and where nothing was forgotten, so has each place of
-    /// the stack.
+    /// Each visit that touches memory by an x87 instruction, the control
+    /// word apart, or decides, has a line; and where nothing was forgotten,
+    /// so has each place of the stack.
     fn finish(self) -> Told {
         let silent =
             (0..self.beside.visits.len()).find(|at| !self.told.contains(at) && self.speaks(*at));
@@ -387,7 +405,8 @@ impl Reading<'_> {
     fn speaks(&self, at: usize) -> bool {
         let ip = self.beside.run.steps[self.beside.visits[at]].ip;
         self.beside.code.at(ip).is_some_and(|code| {
-            code.is_conditional_jump() || code.name.starts_with('f') && code.memory().is_some()
+            let x87 = code.name.starts_with('f') && code.name != "fnstcw";
+            code.is_conditional_jump() || x87 && code.memory().is_some()
         })
     }
 }
@@ -401,9 +420,12 @@ fn decision(body: &str) -> Option<bool> {
     jump.ends_with(": not taken").then_some(false)
 }
 
-fn is_input(name: &str) -> bool {
-    let digits = name.strip_prefix("in");
-    digits.is_some_and(|digits| digits.parse::<u32>().is_ok())
+/// An input's name and what it is, where a line says that.
+fn input(body: &str) -> Option<(&str, &str)> {
+    let (name, what) = body.strip_prefix("-- ")?.split_once(" is ")?;
+    let number = name.strip_prefix("in")?;
+    number.parse::<u32>().ok()?;
+    Some((name, what))
 }
 
 fn place_of_stack(text: &str) -> Option<usize> {
