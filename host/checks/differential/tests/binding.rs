@@ -1,11 +1,21 @@
 //! The typed binding, compared with the calls below it: an instruction as
-//! the binding has it and as its bytes are one and the same.
+//! the binding has it and as its bytes are one and the same. Its sorts of
+//! nodes are compared with the plain table and with the proved check.
 
+use std::collections::BTreeSet;
+
+use differential::checks;
+use differential::formulas::random;
 use differential::instructions::Grid;
 use differential::rng::Rng;
 use differential::sequences::Profile;
+use plain::sorts::sorts;
 use plain::state::{DEPTH, NODES, ROW, STATE, STATEMENTS};
-use sleetgate::{Form, Instruction, Lifted, Lifter, Operand, Place, Source, Why, classify, effect};
+use plain::values::words as words_of;
+use sleetgate::{
+    Form, Format, Instruction, Lifted, Lifter, Node, Nodes, Operand, Place, Refusal, Sort, Source,
+    Why, check, classify, effect,
+};
 
 /// Rows that each list is lent.
 const ROOM: usize = 400;
@@ -72,7 +82,7 @@ impl Raw {
     }
 }
 
-fn number(lifted: Result<Lifted, sleetgate::Refusal>) -> u32 {
+fn number(lifted: Result<Lifted, Refusal>) -> u32 {
     match lifted {
         Ok(Lifted::Modelled) => 0,
         Ok(Lifted::Declined(Why::Form)) => 1,
@@ -114,7 +124,7 @@ fn compared(change: fn(Instruction) -> Instruction) -> (u32, u32) {
 }
 
 /// The answer of `classify`, and the form's words.
-fn told(form: Result<Option<Form>, sleetgate::Refusal>) -> (u32, [u64; sleetgate_sys::FORM]) {
+fn told(form: Result<Option<Form>, Refusal>) -> (u32, [u64; sleetgate_sys::FORM]) {
     match form {
         Err(refusal) => (refusal.number(), [0; 8]),
         Ok(None) => (1, [0; 8]),
@@ -122,14 +132,11 @@ fn told(form: Result<Option<Form>, sleetgate::Refusal>) -> (u32, [u64; sleetgate
     }
 }
 
-/// The words of a form, from document 01's numbers for its parts.
+/// The words of a form, from the manual's numbers for its parts (section
+/// 2).
 fn words(form: Form) -> [u64; sleetgate_sys::FORM] {
     let first = match form {
-        Form::PushConst(bits) => {
-            let low = bits & u128::from(u64::MAX);
-            let part = |part: u128| u64::try_from(part).expect("64 bits");
-            vec![1, part(low), part(bits >> 64)]
-        }
+        Form::PushConst(bits) => [&[1], words_of(bits).as_slice()].concat(),
         Form::PushMemory { width, format } => vec![2, width.into(), format as u64],
         Form::PushSlot(index) => vec![3, index.into()],
         Form::StoreMemory {
@@ -175,7 +182,7 @@ fn source(source: Source) -> [u64; 3] {
 
 /// The answer of `effect`, and its words.
 fn effect_told(
-    effect: Result<Option<sleetgate::Effect>, sleetgate::Refusal>,
+    effect: Result<Option<sleetgate::Effect>, Refusal>,
 ) -> (u32, [u64; sleetgate_sys::EFFECT]) {
     match effect {
         Err(refusal) => (refusal.number(), [0; 7]),
@@ -234,4 +241,116 @@ fn a_binding_with_a_fault_is_reported() {
     for (number, fault) in faults.into_iter().enumerate() {
         assert!(compared(fault).1 > 0, "fault {number}");
     }
+}
+
+/// The sorts of a list by the plain table, up to the first node without
+/// one.
+fn plain_sorts(nodes: &[u64]) -> Vec<Sort> {
+    let first = |count| sorts(nodes, count);
+    let all = first(nodes.len() / ROW);
+    let known = all.or_else(|fault| first(usize::try_from(fault.node).expect("in memory")));
+    let known = known.expect("the nodes before the first fault have sorts");
+    known.into_iter().map(typed_sort).collect()
+}
+
+fn typed_sort(sort: plain::sorts::Sort) -> Sort {
+    const FORMATS: [Format; 3] = [Format::Single, Format::Double, Format::Extended];
+    match sort {
+        plain::sorts::Sort::Bits(width) => Sort::Bits(u32::try_from(width).expect("at most 80")),
+        plain::sorts::Sort::Float(format) => {
+            let alike = FORMATS.iter().find(|f| f.number() == format.number());
+            Sort::Float(*alike.expect("one of the three"))
+        }
+    }
+}
+
+/// What the proved check says of a list with these sorts.
+fn verdict(nodes: Nodes<'_>, sorts: &[Sort]) -> Result<(), Refusal> {
+    if sorts.len() == nodes.len() {
+        return Ok(());
+    }
+    Err(Refusal::Sort { node: sorts.len() })
+}
+
+/// A comparison of sorts.
+#[derive(Default)]
+struct Sorted {
+    lists: u32,
+    different: u32,
+    /// Kinds of nodes that had a sort, and of first nodes that had none.
+    passed: BTreeSet<u64>,
+    faulty: BTreeSet<u64>,
+}
+
+/// Random lists, half of them damaged, where the binding's sorts are what
+/// `of` says.
+fn sorts_compared(of: fn(Nodes<'_>) -> Vec<Sort>) -> Sorted {
+    let (grid, mut rng) = (Grid::default(), Rng::new(6));
+    let mut all = Sorted::default();
+    for _ in 0..20_000 {
+        let words = checks::case(&grid, &mut rng).nodes;
+        let (nodes, found) = (Nodes::new(&words), of(Nodes::new(&words)));
+        let any = rng.below(nodes.len() + 1);
+        let same = found == plain_sorts(&words)
+            && check(nodes) == verdict(nodes, &found)
+            && nodes.sort(any as u64) == found.get(any).copied();
+        let mut kinds = words.chunks_exact(ROW).map(|row| row[0]);
+        all.lists += 1;
+        all.different += u32::from(!same);
+        all.passed.extend(kinds.by_ref().take(found.len()));
+        all.faulty.extend(kinds.next());
+    }
+    all
+}
+
+#[test]
+fn the_binding_s_sorts_are_those_of_the_table_and_of_the_check() {
+    assert!(sleetgate_sys::at_hand(), "{}", sleetgate_sys::MISSING);
+    let all = sorts_compared(|nodes| nodes.sorts());
+    let kinds: BTreeSet<u64> = (1..=29).collect();
+    println!("compared {} lists", all.lists);
+    assert_eq!(all.passed, kinds);
+    assert!(all.faulty.is_superset(&kinds), "{:?}", all.faulty);
+    assert_eq!(all.different, 0);
+}
+
+/// The sorts of a list, with one sort taken for another.
+fn changed(nodes: Nodes<'_>, from: Sort, to: Sort) -> Vec<Sort> {
+    let sorts = nodes.sorts().into_iter();
+    sorts.map(|s| if s == from { to } else { s }).collect()
+}
+
+#[test]
+fn sorts_with_a_fault_are_reported() {
+    assert!(sleetgate_sys::at_hand(), "{}", sleetgate_sys::MISSING);
+    let faults: [fn(Nodes<'_>) -> Vec<Sort>; 4] = [
+        |nodes| vec![Sort::Bits(1); nodes.len()],
+        |nodes| nodes.sorts().into_iter().skip(1).collect(),
+        |nodes| changed(nodes, Sort::Bits(80), Sort::Bits(79)),
+        |nodes| changed(nodes, Sort::Float(Format::Double), Sort::Bits(64)),
+    ];
+    for (number, fault) in faults.into_iter().enumerate() {
+        assert!(sorts_compared(fault).different > 0, "fault {number}");
+    }
+}
+
+/// The row of a node, but a constant's high word first.
+fn key(node: &Node) -> [u64; ROW] {
+    match node.row() {
+        [6, low, high, bits] => [6, high, low, bits],
+        row => row,
+    }
+}
+
+#[test]
+fn nodes_are_ordered_as_their_rows_and_no_two_have_one_text() {
+    let mut rng = Rng::new(7);
+    let words = random(&mut rng, 20_000).nodes;
+    let mut nodes: Vec<Node> = Nodes::new(&words).iter().collect();
+    nodes.sort_unstable();
+    assert!(nodes.is_sorted_by_key(key));
+    nodes.dedup();
+    let texts: BTreeSet<String> = nodes.iter().map(Node::to_string).collect();
+    assert_eq!(texts.len(), nodes.len());
+    assert!(nodes.len() > 10_000, "{}", nodes.len());
 }

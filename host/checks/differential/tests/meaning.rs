@@ -17,7 +17,7 @@ use differential::rng::Rng;
 use differential::sequences::Profile;
 use plain::state::{DEPTH, INPUTS, NODES, ROW, STATE, STATEMENTS, TEMPORARIES};
 use sleetgate::{Nodes, Statement, Statements};
-use x87show::{Names, show};
+use x87show::show;
 
 use floats::{decoded, same};
 use nodes::Column;
@@ -130,8 +130,8 @@ fn different(change: fn(String) -> String) -> usize {
     for _ in 0..600 {
         let lifted = Lifted::random(&grid, &mut rng);
         let listing = lifted.listing();
-        let shown = show(&listing, &Names::default()).expect("it is a listing");
-        let shown = change(shown);
+        let shown = show(&listing, None).expect("it is a listing");
+        let shown = change(shown.text);
         if let Some(why) = lifted.difference(&shown, &mut rng) {
             if differences == 0 {
                 println!("{why}\n{shown}\n{listing}");

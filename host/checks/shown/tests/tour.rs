@@ -5,8 +5,8 @@ use std::io::Write as _;
 use std::path::Path;
 
 use program::{MISSING, Program};
-use x87rec::{Options, translate};
-use x87show::{Names, show};
+use x87rec::{Options, Take, translate};
+use x87show::show;
 
 fn stored(name: &str) -> String {
     let path = Path::new(env!("CARGO_MANIFEST_DIR"))
@@ -21,10 +21,16 @@ fn left_out(why: &str) {
     let _ = writeln!(std::io::stderr(), "left out: {why}");
 }
 
+/// A jump that is taken each time.
+fn always(address: u64) -> Take {
+    let decisions = None;
+    Take { address, decisions }
+}
+
 /// The ways through the filter, as they are asked for.
 fn ways() -> [(&'static str, Options); 3] {
     let path = |taken: &[u64]| Options {
-        path: Some(taken.to_vec()),
+        path: Some(taken.iter().map(|&address| always(address)).collect()),
         ..Options::default()
     };
     let function = Options {
@@ -44,9 +50,10 @@ fn told(program: &Program, objdump: &str) -> String {
         let records = translate(objdump, &options).expect("the disassembly is read");
         let listing = program.listing(&records.bytes()).expect("the program runs");
         let listing = String::from_utf8(listing).expect("a listing is text");
-        let text = show(&listing, &Names::read(&records.names)).expect("it is a listing");
+        let shown = show(&listing, Some(&records.notes)).expect("it is a listing");
         format!(
-            "$ x87rec {words} --names names < filter.objdump | x87lift | x87show --names names\n{text}"
+            "$ x87rec {words} --names names < filter.objdump | x87lift | x87show --names names\n{}",
+            shown.text
         )
     });
     told.join("\n")

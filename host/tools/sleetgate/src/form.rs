@@ -5,8 +5,9 @@ use sleetgate_sys::FORM;
 use crate::node::Rounding;
 use crate::{Instruction, Refusal};
 
-/// A modelled instruction, resolved to what it does. The names are the
-/// Rust's; a slot is a place on the stack, 0 the top.
+/// A modelled instruction, resolved to what it does. The names are those
+/// of r2SMT, whose x87 module the lifter is a port of; a slot is a place
+/// on the stack, 0 the top.
 #[derive(Debug, Clone, Copy, PartialEq, Eq, Hash)]
 pub enum Form {
     /// Push a 79-bit pattern (`fld1`, `fldz`).

@@ -118,6 +118,22 @@ impl Operand {
         Self::Register(text.into())
     }
 
+    /// The place `st(n)` on the stack, 0 the top. There are eight of them:
+    /// an instruction with `st(8)` or beyond is declined.
+    ///
+    /// ```
+    /// # use sleetgate::{Form, Instruction, Operand, classify};
+    /// assert_eq!(Operand::st(3), Operand::register("st(3)"));
+    /// let form = |n| classify(&Instruction::new(0, "fxch", [Operand::st(n)]));
+    /// assert_eq!(form(7)?, Some(Form::Exchange(7)));
+    /// assert_eq!(form(8)?, None);
+    /// # Ok::<(), sleetgate::Refusal>(())
+    /// ```
+    #[must_use]
+    pub fn st(n: u8) -> Self {
+        Self::Register(format!("st({n})"))
+    }
+
     /// Memory of so many bits.
     ///
     /// ```

@@ -1,13 +1,19 @@
 //! The lifter.
 
+use std::fmt;
+
 use sleetgate_sys::{READ, STATE};
 
 use crate::record::place;
+use crate::rows::ROW;
 use crate::{Instruction, Nodes, Refusal, RefusedRecord, Statements};
 
-/// Words of a row, and the largest room of a list.
-const ROW: usize = 4;
+/// The largest room of a list.
 const MOST_ROWS: usize = 65_535;
+
+/// The rooms of the program `x87lift`.
+const PROGRAM_NODES: usize = 1_024;
+const PROGRAM_STATEMENTS: usize = 256;
 
 /// Where the numbers after the slots stand in a state's words.
 const SLOTS: usize = 8;
@@ -28,6 +34,17 @@ pub enum Lifted {
 }
 
 /// Why an instruction was declined.
+///
+/// ```
+/// use sleetgate::{Instruction, Lifter, Statement, Why};
+///
+/// let mut lifter = Lifter::default();
+/// lifter.lift(&Instruction::new(0x10, "fsin", []))?;
+/// let Some(Statement::Unsupported { answer, .. }) = lifter.statements().get(0) else { panic!() };
+/// assert_eq!((answer, answer.number()), (Why::Form, 1));
+/// assert_eq!(answer.to_string(), "not modelled");
+/// # Ok::<(), sleetgate::Refusal>(())
+/// ```
 #[derive(Debug, Clone, Copy, PartialEq, Eq, Hash)]
 pub enum Why {
     /// 1: its form is not modelled.
@@ -36,7 +53,47 @@ pub enum Why {
     Overflow,
 }
 
-/// The state of a lift: the stack and the counts.
+impl Why {
+    /// The answer's number: 1 or 2, as in the row of a statement.
+    #[must_use]
+    pub fn number(self) -> u32 {
+        match self {
+            Self::Form => 1,
+            Self::Overflow => 2,
+        }
+    }
+
+    /// The answer of a number; `None` for any but 1 and 2.
+    ///
+    /// ```
+    /// # use sleetgate::Why;
+    /// assert_eq!((Why::of(2), Why::of(3)), (Some(Why::Overflow), None));
+    /// ```
+    #[must_use]
+    pub fn of(number: u32) -> Option<Self> {
+        match number {
+            1 => Some(Self::Form),
+            2 => Some(Self::Overflow),
+            _ => None,
+        }
+    }
+}
+
+/// `not modelled` or `pushes onto a full stack`.
+impl fmt::Display for Why {
+    fn fmt(&self, f: &mut fmt::Formatter<'_>) -> fmt::Result {
+        f.pad(match self {
+            Self::Form => "not modelled",
+            Self::Overflow => "pushes onto a full stack",
+        })
+    }
+}
+
+/// The state of a lift: the stack and the counts (manual, section 3).
+///
+/// It is valid where `depth` is at most 8, each used slot is a node of the
+/// list, unused slots are 0, inputs and temporaries together are at most
+/// as many as nodes, and both lists have room for their counts.
 #[derive(Debug, Clone, Copy, PartialEq, Eq, Hash, Default)]
 pub struct State {
     /// The node of each place, the top first; unused ones are 0.
@@ -60,6 +117,26 @@ pub struct Lifter {
     state: [u64; STATE],
     nodes: Vec<u64>,
     statements: Vec<u64>,
+}
+
+/// A fresh lift with the rooms of the program `x87lift`: 1,024 nodes and
+/// 256 statements.
+///
+/// ```
+/// use sleetgate::{Instruction, Lifter, Refusal};
+///
+/// let mut lifter = Lifter::default();
+/// let unknown = Instruction::new(0, "fsin", []);
+/// for _ in 0..256 {
+///     lifter.lift(&unknown)?;
+/// }
+/// assert_eq!(lifter.lift(&unknown), Err(Refusal::StatementRoom));
+/// # Ok::<(), Refusal>(())
+/// ```
+impl Default for Lifter {
+    fn default() -> Self {
+        Self::with_capacity(PROGRAM_NODES, PROGRAM_STATEMENTS)
+    }
 }
 
 impl Lifter {
@@ -171,11 +248,11 @@ impl Lifter {
     /// The statements so far.
     ///
     /// ```
-    /// use sleetgate::{Instruction, Lifter, Statement};
+    /// use sleetgate::{Instruction, Lifter, Statement, Why};
     ///
     /// let mut lifter = Lifter::with_capacity(16, 16);
     /// lifter.lift(&Instruction::new(7, "fsin", []))?;
-    /// let declined = Statement::Unsupported { answer: 1, address: 7 };
+    /// let declined = Statement::Unsupported { answer: Why::Form, address: 7 };
     /// assert_eq!(lifter.statements().get(0), Some(declined));
     /// # Ok::<(), sleetgate::Refusal>(())
     /// ```
@@ -252,11 +329,7 @@ impl Lifter {
 
 /// What the numbers 0 to 2 say.
 fn lifted(number: u32) -> Lifted {
-    match number {
-        1 => Lifted::Declined(Why::Form),
-        2 => Lifted::Declined(Why::Overflow),
-        _ => Lifted::Modelled,
-    }
+    Why::of(number).map_or(Lifted::Modelled, Lifted::Declined)
 }
 
 /// The words of the first rows of a list, as far as it goes.

@@ -1,10 +1,22 @@
 //! Nodes.
 
-/// Words of a row.
-const ROW: usize = 4;
+use crate::Iter;
+use crate::rows::Rows;
 
-/// A node of a formula. An operand is the number of an earlier node.
-#[derive(Debug, Clone, Copy, PartialEq, Eq, Hash)]
+/// A node of a formula: one operation, or one value that it starts from
+/// (manual, section 4). An operand is the number of an earlier node.
+///
+/// Nodes are ordered by kind, the number that stands first below, then by
+/// their fields from left to right. That is the order of their rows, but
+/// constants go by their value.
+///
+/// ```
+/// # use sleetgate::Node;
+/// let mut nodes = [Node::Eq(1, 0), Node::Eq(0, 7), Node::Status];
+/// nodes.sort();
+/// assert_eq!(nodes, [Node::Status, Node::Eq(0, 7), Node::Eq(1, 0)]);
+/// ```
+#[derive(Debug, Clone, Copy, PartialEq, Eq, PartialOrd, Ord, Hash)]
 pub enum Node {
     /// 1: a value that was there before: of a place (79 bits), or the
     /// free bits of a status word (16).
@@ -108,7 +120,7 @@ pub enum Node {
 }
 
 /// A flag.
-#[derive(Debug, Clone, Copy, PartialEq, Eq, Hash)]
+#[derive(Debug, Clone, Copy, PartialEq, Eq, PartialOrd, Ord, Hash)]
 #[allow(missing_docs)]
 pub enum Flag {
     CF,
@@ -130,7 +142,7 @@ impl Flag {
 }
 
 /// How a float operation rounds.
-#[derive(Debug, Clone, Copy, PartialEq, Eq, Hash)]
+#[derive(Debug, Clone, Copy, PartialEq, Eq, PartialOrd, Ord, Hash)]
 pub enum Rounding {
     /// To nearest, ties to even.
     NearestEven,
@@ -153,7 +165,7 @@ impl Rounding {
 }
 
 /// A float format.
-#[derive(Debug, Clone, Copy, PartialEq, Eq, Hash)]
+#[derive(Debug, Clone, Copy, PartialEq, Eq, PartialOrd, Ord, Hash)]
 pub enum Format {
     /// 8 exponent and 24 significand bits.
     Single,
@@ -192,9 +204,10 @@ impl Format {
 }
 
 impl Node {
-    /// The node of a row; `None` where a field is outside document 01's
-    /// values or an unused one is not 0. Whether the node has a sort is
-    /// for [`check`](crate::check) to say.
+    /// The node of a row; `None` where there is no such kind, a flag,
+    /// rounding or format is none of those here, or an unused field is
+    /// not 0. Whether the node has a sort is for [`Node::sort`] and
+    /// [`check`](crate::check) to say.
     ///
     /// ```
     /// # use sleetgate::{Node, Rounding};
@@ -306,6 +319,58 @@ impl Node {
         }
     }
 
+    /// Its operands, in the order in which they stand in its row.
+    ///
+    /// ```
+    /// # use sleetgate::Node;
+    /// let choice = Node::Ite { condition: 9, then: 4, otherwise: 7 };
+    /// assert!(choice.operands().eq([9, 4, 7]));
+    /// let bit = Node::Extract { source: 5, hi: 8, lo: 8 };
+    /// assert!(bit.operands().eq([5]));
+    /// assert_eq!(Node::Status.operands().len(), 0);
+    /// ```
+    #[must_use]
+    pub fn operands(
+        self,
+    ) -> impl DoubleEndedIterator<Item = u64> + ExactSizeIterator + Clone + use<> {
+        self.row().into_iter().skip(1).take(self.arity())
+    }
+
+    /// How many operands it has. They are the first fields of its row.
+    fn arity(self) -> usize {
+        match self {
+            Self::Input { .. }
+            | Self::Temporary { .. }
+            | Self::Slot { .. }
+            | Self::Status
+            | Self::Flag(_)
+            | Self::Constant { .. } => 0,
+            Self::BoolNot(_)
+            | Self::Extract { .. }
+            | Self::FIsNaN(_)
+            | Self::FSqrt(..)
+            | Self::FRoundToIntegral(..)
+            | Self::BvToFp(..)
+            | Self::FpToIeeeBv(_)
+            | Self::FpToSbv(..)
+            | Self::SbvToFp(..)
+            | Self::FpToFp(..) => 1,
+            Self::And(..)
+            | Self::Xor(..)
+            | Self::Eq(..)
+            | Self::BoolAnd(..)
+            | Self::BoolOr(..)
+            | Self::Concat { .. }
+            | Self::FAdd(..)
+            | Self::FSub(..)
+            | Self::FMul(..)
+            | Self::FDiv(..)
+            | Self::FEq(..)
+            | Self::FLt(..) => 2,
+            Self::Ite { .. } => 3,
+        }
+    }
+
     /// The words of a list of these nodes, for [`Nodes::new`].
     ///
     /// ```
@@ -362,8 +427,9 @@ impl<'a> Nodes<'a> {
     }
 
     /// All of them; a row that is no node ends them.
-    pub fn iter(self) -> impl Iterator<Item = Node> + 'a {
-        self.0.iter().map_while(Node::of)
+    #[must_use]
+    pub fn iter(self) -> Iter<'a, Node> {
+        self.0.iter(Node::of)
     }
 
     /// The words.
@@ -373,21 +439,29 @@ impl<'a> Nodes<'a> {
     }
 }
 
-/// Rows of four words.
-#[derive(Debug, Clone, Copy, PartialEq, Eq)]
-pub(crate) struct Rows<'a>(pub(crate) &'a [u64]);
+/// ```
+/// # use sleetgate::{Node, Nodes};
+/// let words = Node::words(&[Node::Status, Node::BoolNot(0)]);
+/// let mut seen = Vec::new();
+/// for node in Nodes::new(&words) {
+///     seen.push(node);
+/// }
+/// assert_eq!(seen, [Node::Status, Node::BoolNot(0)]);
+/// ```
+impl<'a> IntoIterator for Nodes<'a> {
+    type Item = Node;
+    type IntoIter = Iter<'a, Node>;
 
-impl<'a> Rows<'a> {
-    pub(crate) fn len(self) -> usize {
-        self.0.len() / ROW
+    fn into_iter(self) -> Self::IntoIter {
+        self.iter()
     }
+}
 
-    pub(crate) fn get(self, number: u64) -> Option<[u64; ROW]> {
-        let at = usize::try_from(number).ok()?.checked_mul(ROW)?;
-        self.0.get(at..)?.first_chunk().copied()
-    }
+impl<'a> IntoIterator for &Nodes<'a> {
+    type Item = Node;
+    type IntoIter = Iter<'a, Node>;
 
-    pub(crate) fn iter(self) -> impl Iterator<Item = [u64; ROW]> + 'a {
-        self.0.as_chunks().0.iter().copied()
+    fn into_iter(self) -> Self::IntoIter {
+        self.iter()
     }
 }

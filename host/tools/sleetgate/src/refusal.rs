@@ -3,7 +3,8 @@
 use std::error::Error;
 use std::fmt;
 
-/// Why a call was refused. A refused call changes nothing.
+/// Why a call was refused, by the numbers of the manual's section 7. A
+/// refused call changes nothing.
 ///
 /// ```
 /// use sleetgate::{Instruction, Refusal, classify};
@@ -19,13 +20,13 @@ pub enum Refusal {
     Text,
     /// 4: more than three operands, or a kind or flag out of range.
     Shape,
-    /// 5: the state is not valid.
+    /// 5: the [state](crate::State) is not valid.
     State,
     /// 6: the nodes of the whole instruction do not fit.
     NodeRoom,
     /// 7: the statements of the whole instruction do not fit.
     StatementRoom,
-    /// 8: a node has no sort.
+    /// 8: a node has no [sort](crate::Sort).
     Sort {
         /// The first such node.
         node: usize,
@@ -47,7 +48,7 @@ pub enum Refusal {
 }
 
 impl Refusal {
-    /// Document 01's number.
+    /// Its number, 3 to 13.
     #[must_use]
     pub fn number(self) -> u32 {
         match self {
@@ -75,7 +76,7 @@ impl Refusal {
     }
 
     /// The refusal of a number, with the node beside it; `None` for 0 to
-    /// 2 and for numbers that document 01 does not have.
+    /// 2, which are no refusals, and over 13.
     ///
     /// ```
     /// # use sleetgate::Refusal;
@@ -103,8 +104,8 @@ impl Refusal {
     /// The refusal that the library answered, if it did.
     ///
     /// # Panics
-    /// Where document 01 has no such number: the library is proved to
-    /// give none.
+    /// Where the number is over 13: the library is proved to give none
+    /// such.
     pub(crate) fn told(number: u32, node: u64) -> Option<Self> {
         assert!(number <= 13, "the library answered {number}");
         Self::of(number, usize::try_from(node).unwrap_or(usize::MAX))

@@ -1,8 +1,11 @@
 //! Statements.
 
-use crate::node::{Flag, Rows};
+use crate::rows::Rows;
+use crate::{Flag, Iter, Why};
 
-/// A statement of a lift, in the order of the instructions.
+/// A statement of a lift: what an instruction does beyond the register
+/// stack (manual, section 4). A list has them in the order of the
+/// instructions.
 #[derive(Debug, Clone, Copy, PartialEq, Eq, Hash)]
 pub enum Statement {
     /// 1: a temporary or a named slot is loaded.
@@ -42,15 +45,16 @@ pub enum Statement {
     },
     /// 6: an instruction that was declined; the stack is forgotten here.
     Unsupported {
-        /// The answer, 1 or 2.
-        answer: u64,
+        /// Why it was declined.
+        answer: Why,
         /// The instruction's address.
         address: u64,
     },
 }
 
 impl Statement {
-    /// The statement of a row; `None` where document 01 has no such row.
+    /// The statement of a row; `None` where there is no such kind, flag
+    /// or answer, or an unused field is not 0.
     ///
     /// ```
     /// # use sleetgate::Statement;
@@ -77,8 +81,8 @@ impl Statement {
                 node: b,
             },
             5 => Self::Ax { node: a },
-            6 if matches!(a, 1 | 2) => Self::Unsupported {
-                answer: a,
+            6 => Self::Unsupported {
+                answer: Why::of(u32::try_from(a).ok()?)?,
                 address: b,
             },
             _ => return None,
@@ -103,7 +107,7 @@ impl Statement {
             Self::Status { node } => [3, node, 0, 0],
             Self::Flag { flag, node } => [4, flag.number(), node, 0],
             Self::Ax { node } => [5, node, 0, 0],
-            Self::Unsupported { answer, address } => [6, answer, address, 0],
+            Self::Unsupported { answer, address } => [6, answer.number().into(), address, 0],
         }
     }
 }
@@ -143,13 +147,41 @@ impl<'a> Statements<'a> {
     }
 
     /// All of them; a row that is no statement ends them.
-    pub fn iter(self) -> impl Iterator<Item = Statement> + 'a {
-        self.0.iter().map_while(Statement::of)
+    #[must_use]
+    pub fn iter(self) -> Iter<'a, Statement> {
+        self.0.iter(Statement::of)
     }
 
     /// The words.
     #[must_use]
     pub fn words(self) -> &'a [u64] {
         self.0.0
+    }
+}
+
+/// ```
+/// # use sleetgate::{Statement, Statements};
+/// let words = [3, 7, 0, 0, 5, 8, 0, 0];
+/// let mut seen = Vec::new();
+/// for statement in Statements::new(&words) {
+///     seen.push(statement);
+/// }
+/// assert_eq!(seen, [Statement::Status { node: 7 }, Statement::Ax { node: 8 }]);
+/// ```
+impl<'a> IntoIterator for Statements<'a> {
+    type Item = Statement;
+    type IntoIter = Iter<'a, Statement>;
+
+    fn into_iter(self) -> Self::IntoIter {
+        self.iter()
+    }
+}
+
+impl<'a> IntoIterator for &Statements<'a> {
+    type Item = Statement;
+    type IntoIter = Iter<'a, Statement>;
+
+    fn into_iter(self) -> Self::IntoIter {
+        self.iter()
     }
 }

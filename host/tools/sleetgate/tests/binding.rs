@@ -1,10 +1,10 @@
 //! The binding says what the library says, and turns what is out of range
-//! into document 01's numbers.
+//! into the numbers of the manual's section 7.
 
 use std::collections::BTreeSet;
 
 use sleetgate::{
-    Format, Instruction, Item, Lifted, Lifter, Node, Nodes, Operand, Place, Refusal, State,
+    Form, Format, Instruction, Item, Lifted, Lifter, Node, Nodes, Operand, Place, Refusal, State,
     Statement, Why, check, classify, effect, evaluate, image, read_record, write_record,
 };
 
@@ -47,7 +47,7 @@ fn a_text_of_32_bytes_is_taken() {
 }
 
 #[test]
-fn refusals_come_in_the_order_of_document_01() {
+fn refusals_come_in_the_order_of_the_manual() {
     let mut lifter = Lifter::with_capacity(0, 0);
     let long = "f".repeat(33);
     let four = insn(&long, &["st(1)"; 4]);
@@ -87,11 +87,8 @@ fn every_kind_of_row_that_the_lifter_writes_is_a_node_or_a_statement() {
     }
     lift("fcom", vec![]);
     lift("fnstsw", vec![Operand::register("ax")]);
-    lift("fcomi", vec![Operand::register("st(1)")]);
-    lift(
-        "fcmovnbe",
-        ["st(0)", "st(1)"].map(Operand::register).to_vec(),
-    );
+    lift("fcomi", vec![Operand::st(1)]);
+    lift("fcmovnbe", vec![Operand::st(0), Operand::st(1)]);
     lift("fisttp", vec![memory(16, Place::Address(3))]);
     lift("fstp", vec![memory(80, Place::Address(3))]);
     lift("fstp", vec![memory(32, Place::Address(3))]);
@@ -102,9 +99,9 @@ fn every_kind_of_row_that_the_lifter_writes_is_a_node_or_a_statement() {
     let (nodes, statements) = (lifter.nodes(), lifter.statements());
     assert_eq!(nodes.iter().count(), nodes.len());
     assert_eq!(statements.iter().count(), statements.len());
-    let of_nodes = kinds(nodes.iter().map(|node| node.row()));
+    let of_nodes = kinds(nodes.iter().map(Node::row));
     assert_eq!(of_nodes, (1..=29).collect::<Vec<u64>>());
-    let of_statements = kinds(statements.iter().map(|statement| statement.row()));
+    let of_statements = kinds(statements.iter().map(Statement::row));
     assert_eq!(of_statements, (1..=6).collect::<Vec<u64>>());
     assert_eq!(check(nodes), Ok(()));
 }
@@ -119,10 +116,85 @@ fn overflow_is_a_decline_of_its_own() {
     assert_eq!(declined, Ok(Lifted::Declined(Why::Overflow)));
     let last = lifter.statements().iter().last();
     let expected = Statement::Unsupported {
-        answer: 2,
+        answer: Why::Overflow,
         address: 0,
     };
     assert_eq!((last, lifter.stack()), (Some(expected), [].as_slice()));
+}
+
+#[test]
+fn an_answer_is_a_row_s_number_and_words() {
+    let rows = [
+        ([6, 1, 9, 0], Why::Form, "not modelled"),
+        ([6, 2, 9, 0], Why::Overflow, "pushes onto a full stack"),
+    ];
+    for (row, answer, text) in rows {
+        let declined = Statement::Unsupported { answer, address: 9 };
+        assert_eq!((Statement::of(row), declined.row()), (Some(declined), row));
+        assert_eq!(answer.to_string(), text);
+        assert_eq!(Why::of(answer.number()), Some(answer));
+    }
+    for answer in [0, 3, 1 << 32 | 1, u64::MAX] {
+        assert_eq!(Statement::of([6, answer, 9, 0]), None);
+    }
+    assert_eq!((Why::of(0), Why::of(3)), (None, None));
+}
+
+/// Lift an instruction until it is refused: how often, and why.
+fn refused_after(lifter: &mut Lifter, insns: &[Instruction]) -> (usize, Refusal) {
+    let lifts = insns.iter().cycle().map(|insn| lifter.lift(insn));
+    let refused = lifts.enumerate().find_map(|(at, l)| Some((at, l.err()?)));
+    refused.expect("a room ends")
+}
+
+#[test]
+fn a_default_lifter_has_the_rooms_of_the_program() {
+    let push_and_drop = [insn("fldz", &[]), insn("fstp", &["st(0)"])];
+    let mut lifter = Lifter::default();
+    let (_, refusal) = refused_after(&mut lifter, &push_and_drop);
+    assert_eq!((refusal, lifter.nodes().len()), (Refusal::NodeRoom, 1_024));
+    let refused = refused_after(&mut lifter, &[insn("fsin", &[])]);
+    assert_eq!(refused, (256, Refusal::StatementRoom));
+}
+
+#[test]
+fn a_place_is_one_of_eight() {
+    let texts = (0..8).map(|n| format!("st({n})"));
+    let places: Vec<Operand> = (0..8).map(Operand::st).collect();
+    assert!(texts.map(Operand::register).eq(places));
+    let form = |n| classify(&Instruction::new(0, "fld", [Operand::st(n)]));
+    for n in 0..8 {
+        assert_eq!(form(n), Ok(Some(Form::PushSlot(n))));
+    }
+    for n in [8, 10, u8::MAX] {
+        assert_eq!(form(n), Ok(None));
+    }
+}
+
+#[test]
+fn lists_are_walked_by_value_and_by_reference() {
+    let mut lifter = Lifter::default();
+    for name in ["fld1", "fcom", "fsin"] {
+        lifter.lift(&insn(name, &[])).expect("there is room");
+    }
+    let (nodes, statements) = (lifter.nodes(), lifter.statements());
+    let of_nodes: Vec<Node> = (&nodes).into_iter().collect();
+    let of_statements: Vec<Statement> = (&statements).into_iter().collect();
+    assert_eq!(of_nodes.len(), nodes.len());
+    assert_eq!(of_statements.len(), statements.len());
+    assert!(nodes.into_iter().eq(of_nodes.iter().copied()));
+    assert!(statements.into_iter().eq(of_statements));
+    assert_eq!(Node::words(&of_nodes), nodes.words());
+}
+
+#[test]
+fn a_row_that_is_none_ends_a_list_for_good() {
+    let words = [4, 0, 0, 0, 4, 0, 0, 1, 4, 0, 0, 0];
+    let mut nodes = Nodes::new(&words).iter();
+    assert_eq!(nodes.size_hint(), (0, Some(3)));
+    let walked = [(); 3].map(|()| nodes.next());
+    assert_eq!(walked, [Some(Node::Status), None, None]);
+    assert_eq!(nodes.size_hint(), (0, Some(0)));
 }
 
 #[test]

@@ -82,7 +82,7 @@ impl Listing {
             return Err("nodes are numbered from 0 on, before the statements");
         }
         let node = Node::of([kind, a, b, c]).ok_or("there is no such node")?;
-        if operands(node).iter().any(|&operand| operand >= number) {
+        if node.operands().into_iter().any(|operand| operand >= number) {
             return Err("an operand is an earlier node");
         }
         self.nodes.push(node);
@@ -139,44 +139,5 @@ pub fn named(statement: Statement) -> Option<u64> {
         | Statement::Flag { node, .. }
         | Statement::Ax { node } => Some(node),
         Statement::Unsupported { .. } => None,
-    }
-}
-
-/// The operands of a node.
-fn operands(node: Node) -> Vec<u64> {
-    match node {
-        Node::Input { .. }
-        | Node::Temporary { .. }
-        | Node::Slot { .. }
-        | Node::Status
-        | Node::Flag(_)
-        | Node::Constant { .. } => Vec::new(),
-        Node::BoolNot(a)
-        | Node::Extract { source: a, .. }
-        | Node::FIsNaN(a)
-        | Node::FSqrt(a, _)
-        | Node::FRoundToIntegral(a, _)
-        | Node::BvToFp(a, _)
-        | Node::FpToIeeeBv(a)
-        | Node::FpToSbv(a, ..)
-        | Node::SbvToFp(a, ..)
-        | Node::FpToFp(a, ..) => vec![a],
-        Node::And(a, b)
-        | Node::Xor(a, b)
-        | Node::Eq(a, b)
-        | Node::BoolAnd(a, b)
-        | Node::BoolOr(a, b)
-        | Node::Concat { high: a, low: b }
-        | Node::FAdd(a, b, _)
-        | Node::FSub(a, b, _)
-        | Node::FMul(a, b, _)
-        | Node::FDiv(a, b, _)
-        | Node::FEq(a, b)
-        | Node::FLt(a, b) => vec![a, b],
-        Node::Ite {
-            condition,
-            then,
-            otherwise,
-        } => vec![condition, then, otherwise],
     }
 }

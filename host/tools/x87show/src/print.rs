@@ -5,7 +5,7 @@ use std::fmt::Write;
 use std::slice::Iter;
 
 use notes::{Event, Notes, Record, What};
-use sleetgate::{Node, Refusal, Statement};
+use sleetgate::{Node, Refusal, Statement, Why};
 
 use crate::build::{Built, Read, build, flag_name};
 use crate::listing::{Listing, named};
@@ -467,22 +467,15 @@ impl<'a> Page<'a> {
 }
 
 /// What is said of a decline.
-fn declined(answer: u64, address: u64, record: Option<&Record>) -> String {
-    let Some(record) = record else {
-        let why = match answer {
-            1 => "not modelled",
-            _ => "pushes onto a full stack",
-        };
-        return format!("-- {address:#x}: {why}: the stack is forgotten here");
+fn declined(answer: Why, address: u64, record: Option<&Record>) -> String {
+    let (begin, why) = match record {
+        None => (format!("{address:#x}: "), None),
+        Some(record) if record.text.is_empty() => (String::new(), record.why.as_ref()),
+        Some(record) => (format!("{}: ", record.text), record.why.as_ref()),
     };
-    let begin = match record.text.as_str() {
-        "" => String::new(),
-        text => format!("{text}: "),
+    let words = match (answer, why) {
+        (Why::Form, Some(why)) => why.clone(),
+        _ => answer.to_string(),
     };
-    let why = match (answer, &record.why) {
-        (1, Some(why)) => why,
-        (1, None) => "not modelled",
-        _ => "pushes onto a full stack",
-    };
-    format!("-- {begin}{why}: the stack is forgotten here")
+    format!("-- {begin}{words}: the stack is forgotten here")
 }

@@ -127,6 +127,8 @@ impl<'a> Text<'a> {
                 && let Some(value) = values.pop()
             {
                 self.known.insert(name.to_owned(), value);
+            } else if let Some((name, "fsw")) = line.split_once(" := ") {
+                self.known.insert(name.to_owned(), self.known["fsw"]);
             } else {
                 let load = line.split_once(" := [address ");
                 assert!(line.starts_with("--") || load.is_some(), "{line}");
