@@ -41,7 +41,7 @@ struct action {
 /* A step as it is told; x87 registers stand in the processor's own order. */
 struct step {
     word ip, eflags, general[8];
-    half status, tags;
+    half control, status, tags, unused;
     byte registers[8][10];
     word changes;
 };
@@ -124,8 +124,10 @@ HERE static void state(struct step *step, const struct context *at)
     step->ip = at->ip;
     step->eflags = at->eflags;
     copy(step->general, general, sizeof general);
+    step->control = x87->control;
     step->status = x87->status;
     step->tags = x87->tags;
+    step->unused = 0;
     for (word place = 0; place < 8; place++)
         copy(step->registers[(place + (x87->status >> 11)) & 7], x87->st[place], 10);
 }

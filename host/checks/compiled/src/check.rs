@@ -36,10 +36,9 @@ impl<'a> Check<'a> {
         self.code.entry()
     }
 
-    /// How many ways were shown.
-    #[must_use]
-    pub fn ways(&self) -> usize {
-        self.texts.len()
+    /// The texts of the ways that were shown.
+    pub fn texts(&self) -> impl Iterator<Item = &String> {
+        self.texts.values()
     }
 
     /// Compare a run with the text of its way.

@@ -123,12 +123,6 @@ impl Extended {
         joined!("fdivp st(1), st", self, other)
     }
 
-    /// This number times a power of two.
-    #[must_use]
-    pub fn scaled(self, power: Self) -> Self {
-        joined!("fscale; fstp st(1)", power, self)
-    }
-
     #[must_use]
     pub fn root(self) -> Self {
         let mut to = self.0;
@@ -222,7 +216,6 @@ mod tests {
         assert_eq!(five.minus(two), number(3.0));
         assert_eq!(five.times(two), number(10.0));
         assert_eq!(five.over(two), number(2.5));
-        assert_eq!(five.scaled(two), number(20.0));
         assert_eq!(five.compared(two), Some(Ordering::Greater));
         assert_eq!(two.compared(five), Some(Ordering::Less));
         assert_eq!(two.compared(two), Some(Ordering::Equal));

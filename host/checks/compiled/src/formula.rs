@@ -200,7 +200,7 @@ impl Formula<'_> {
             return self.call(word);
         }
         if word.starts_with(|c: char| c.is_ascii_digit()) {
-            return self.constant(word);
+            return constant(word);
         }
         let known = self.known.get(word).copied();
         known.ok_or_else(|| format!("what is {word}?"))
@@ -216,24 +216,6 @@ impl Formula<'_> {
         let (word, rest) = self.rest.split_at(end);
         self.rest = rest;
         word
-    }
-
-    /// A number in decimal digits, or an odd number times a power of two.
-    fn constant(&mut self, word: &str) -> Result<Value, String> {
-        let wrong = || format!("{word} is no constant");
-        if self.takes("*2^") {
-            let negative = self.takes("-");
-            let power = self.word().parse::<u16>().map_err(|_| wrong())?;
-            let power = i128::from(power) * if negative { -1 } else { 1 };
-            let odd = word.parse::<u64>().map_err(|_| wrong())?;
-            return odd_times_power(odd, power).ok_or_else(wrong);
-        }
-        if word.contains('.') {
-            let number = word.parse::<f64>().map_err(|_| wrong())?;
-            let number = Extended::of_pattern(number.to_bits().into(), 64);
-            return number.map(Value::Number).ok_or_else(wrong);
-        }
-        word.parse().map(Value::Whole).map_err(|_| wrong())
     }
 
     fn call(&mut self, name: &str) -> Result<Value, String> {
@@ -270,16 +252,16 @@ impl Formula<'_> {
     }
 }
 
-/// An odd number of at most 64 bits, times a power of two.
-fn odd_times_power(odd: u64, power: i128) -> Option<Value> {
-    let shift = odd.leading_zeros();
-    let exponent = u16::try_from(power + 63 - i128::from(shift) + 0x3fff).ok()?;
-    let mut bytes = [0; 10];
-    bytes[..8].copy_from_slice(&(odd << shift).to_le_bytes());
-    bytes[8..].copy_from_slice(&exponent.to_le_bytes());
-    (1..0x7fff)
-        .contains(&exponent)
-        .then_some(Value::Number(Extended(bytes)))
+/// A number with a decimal point, or bits without a width.
+fn constant(word: &str) -> Result<Value, String> {
+    let value = if word.contains('.') {
+        let number = word.parse::<f64>().ok();
+        let number = number.and_then(|number| Extended::of_pattern(number.to_bits().into(), 64));
+        number.map(Value::Number)
+    } else {
+        word.parse().ok().map(Value::Whole)
+    };
+    value.ok_or_else(|| format!("{word} is no constant"))
 }
 
 fn function(name: &str, of: Value) -> Result<Value, String> {
@@ -370,7 +352,6 @@ mod tests {
             ("number(m2, in0)", number(-4.0)),
             ("number(m2, in2)", Value::Number(NINE)),
             ("number(m3, in0)", number(1.0)),
-            ("5*2^-1", number(2.5)),
             (
                 "status(C0: CF1, C2: 0, C3: in0 == in0, rest: in1)",
                 Value::Bits(0xf9ff, 16),
@@ -392,6 +373,7 @@ mod tests {
             "(m0",
             "m0 ? m0 : m0",
             "int(in0)",
+            "1x.5",
         ] {
             assert!(value(text, &known()).is_err(), "{text}");
         }

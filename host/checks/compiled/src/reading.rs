@@ -10,9 +10,10 @@
 //! What the text loads, or does not know, is taken from the run; what it
 //! says of stores, flags, status words, `ax` and the stack is compared.
 
-use std::collections::{BTreeMap, BTreeSet, HashMap};
+use std::collections::{BTreeMap, HashMap};
 
 use crate::code::{Code, Instruction};
+use crate::extended::Extended;
 use crate::formula::{self, Value};
 use crate::place;
 use crate::run::{Part, Run, Step};
@@ -22,6 +23,19 @@ const FLAGS: [(&str, u32); 5] = [("CF", 0), ("PF", 2), ("ZF", 6), ("SF", 7), ("O
 
 /// C0, C2 and C3 in the status word.
 const CONDITIONS: u16 = 1 << 8 | 1 << 10 | 1 << 14;
+
+/// What is said of each rounding and each precision, by their numbers in
+/// the control word.
+const ROUNDINGS: [&str; 4] = [
+    "the code rounds to nearest even",
+    "the code rounds down, as floor does",
+    "the code rounds up, as ceil does",
+    "the code rounds toward zero",
+];
+const PRECISIONS: [&str; 4] = ["24 bits", "", "53 bits", "64 bits"];
+
+/// As many lines as any visit must have.
+const ENOUGH: usize = 5;
 
 /// How often each kind of line was compared, or taken from the run.
 pub type Counts = BTreeMap<&'static str, usize>;
@@ -53,9 +67,10 @@ pub fn compare<'a>(
         known: HashMap::new(),
         written: HashMap::new(),
         places: HashMap::new(),
-        told: BTreeSet::new(),
+        told: BTreeMap::new(),
         stack: 0,
         forgotten: false,
+        ended: false,
         counts,
     };
     for line in text.lines() {
@@ -69,18 +84,20 @@ struct Reading<'a> {
     /// The visit of the line before.
     at: usize,
     /// Lines that are read with the next one.
-    waiting: Vec<&'a str>,
+    waiting: Vec<(u32, &'a str)>,
     known: HashMap<String, Value>,
     /// What the text last said of a flag or the status word, and at which
     /// address.
     written: HashMap<&'a str, (u32, Value)>,
     /// The real address of each place.
     places: HashMap<String, u32>,
-    /// The visits that have a line.
-    told: BTreeSet<usize>,
+    /// How many lines there were for each visit; enough, where it was
+    /// declined.
+    told: BTreeMap<usize, usize>,
     /// Places of the stack that were told at the end.
     stack: usize,
     forgotten: bool,
+    ended: bool,
     counts: &'a mut Counts,
 }
 
@@ -94,13 +111,13 @@ impl<'a> Reading<'a> {
         let (address, body) = line.split_once(": ").ok_or("no address")?;
         let address = hexadecimal(address.trim()).ok_or("no address")?;
         if body.starts_with("let ") || input(body).is_some() {
-            self.waiting.push(body);
+            self.waiting.push((address, body));
             return Ok(());
         }
         let decision = decision(body);
         self.go_to(address, decision.is_some())?;
-        for waiting in std::mem::take(&mut self.waiting) {
-            self.part(waiting)?;
+        for (address, part) in std::mem::take(&mut self.waiting) {
+            self.part(address, part)?;
         }
         match decision {
             Some(taken) => self.jump(taken),
@@ -108,25 +125,49 @@ impl<'a> Reading<'a> {
         }
     }
 
+    /// There is a line more for the visit.
+    fn tell(&mut self, lines: usize) {
+        *self.told.entry(self.at).or_default() += lines;
+    }
+
     /// A part of the line's formula, or an input in it.
-    fn part(&mut self, part: &str) -> Told {
-        let (name, value) = if let Some((name, what)) = input(part) {
+    fn part(&mut self, address: u32, part: &str) -> Told {
+        if let Some((name, what)) = input(part) {
+            let value = self.input(what)?;
             self.count("inputs");
-            (name, self.input(what)?)
-        } else {
-            let part = part.strip_prefix("let ").ok_or("what is this?")?;
-            let (name, formula) = part.split_once(" = ").ok_or("no formula")?;
-            (name, self.value(formula)?)
-        };
+            self.known.insert(name.to_owned(), value);
+            return Ok(());
+        }
+        let part = part.strip_prefix("let ").ok_or("what is this?")?;
+        let (name, formula) = part.split_once(" = ").ok_or("no formula")?;
+        let value = self.value(formula)?;
         self.known.insert(name.to_owned(), value);
-        Ok(())
+        self.count("parts");
+        match value {
+            Value::Number(number) if !self.was_made(number, address) => {
+                Err(format!("{address:x} left {number:x?} nowhere"))
+            }
+            _ => Ok(()),
+        }
+    }
+
+    /// Whether a place of the stack held a number behind some visit of an
+    /// instruction.
+    fn was_made(&self, number: Extended, address: u32) -> bool {
+        let steps = &self.beside.run.steps;
+        let visits = self.beside.visits[..=self.at].iter().enumerate();
+        let mut visits = visits.filter(|&(_, &visit)| steps[visit].ip == address);
+        visits.any(|(at, _)| {
+            let behind = self.behind_visit(at);
+            (0..8).any(|place| behind.st(place).is_some_and(|held| held.is_same(number)))
+        })
     }
 
     fn body(&mut self, body: &str) -> Told {
         if let Some(words) = body.strip_prefix("-- ") {
-            self.forgotten |= words.ends_with("the stack is forgotten here");
-            return Ok(());
+            return self.words(words);
         }
+        self.tell(1);
         if let Some((place, formula)) = body.split_once(" = ")
             && place.starts_with("st(")
         {
@@ -136,18 +177,38 @@ impl<'a> Reading<'a> {
         self.assignment(left, right)
     }
 
-    /// Go to the visit of a line.
-    fn go_to(&mut self, address: u32, next: bool) -> Told {
-        let here = self.told.contains(&self.at);
-        let from = self.at + usize::from(next && here);
-        let visits = self.beside.visits.iter().enumerate().skip(from);
-        let step = |step: usize| &self.beside.run.steps[step];
+    fn words(&mut self, words: &str) -> Told {
+        if words.ends_with("the stack is forgotten here") {
+            self.forgotten = true;
+            self.tell(ENOUGH);
+        }
+        if let Some((_, what)) = words.split_once(": from here on ") {
+            return self.control(what);
+        }
+        if words.contains(" ends here, ") {
+            return self.end(words);
+        }
+        Ok(())
+    }
+
+    /// Where the way ends, and whether that is the return.
+    fn end(&mut self, words: &str) -> Told {
+        self.ended = true;
+        same(self.at + 1, self.beside.visits.len())?;
+        let told = words.contains(" ends here, at the return");
+        same(told, self.instruction()?.name == "ret")
+    }
+
+    /// Go to the visit of a line; to the next one, where this one's
+    /// decision was told.
+    fn go_to(&mut self, address: u32, decision: bool) -> Told {
+        let told = decision && self.told.contains_key(&self.at);
+        let steps = &self.beside.run.steps;
+        let mut visits = self.beside.visits.iter().enumerate();
         let found = visits
-            .filter(|&(_, &visit)| step(visit).ip == address)
-            .map(|(at, _)| at)
-            .next();
-        self.at = found.ok_or("the run does not come here")?;
-        self.told.insert(self.at);
+            .find(|&(at, &visit)| at >= self.at + usize::from(told) && steps[visit].ip == address);
+        let (at, _) = found.ok_or("the run does not come here")?;
+        self.at = at;
         Ok(())
     }
 
@@ -196,6 +257,7 @@ impl<'a> Reading<'a> {
     fn jump(&mut self, told: bool) -> Told {
         let behind = self.beside.code.behind(self.before().ip);
         let taken = behind != Some(self.behind().ip);
+        self.tell(1);
         self.count("jumps");
         same(told, taken)
     }
@@ -219,6 +281,22 @@ impl<'a> Reading<'a> {
         let place = place_of_stack(place).ok_or("which place?")?;
         let held = step.st(place).ok_or("an empty place of the stack")?;
         Ok(Value::Number(held))
+    }
+
+    /// What is said of the control word that was loaded.
+    fn control(&mut self, what: &str) -> Told {
+        let (entry, real) = (self.beside.run.steps[0].control, self.behind().control);
+        self.tell(1);
+        self.count("control words");
+        let what = what.split(", if ").next().unwrap_or(what);
+        if what == "the control word is that of the entry" {
+            return same(entry, real);
+        }
+        let (rounding, precision) = what.split_once(", precision ").ok_or("no precision")?;
+        let told = ROUNDINGS.iter().position(|words| *words == rounding);
+        same(told, Some(usize::from(real >> 10 & 3)))?;
+        let told = PRECISIONS.iter().position(|words| *words == precision);
+        same(told, Some(usize::from(real >> 8 & 3)))
     }
 
     fn stack(&mut self, text: &str, formula: &str) -> Told {
@@ -368,47 +446,60 @@ impl<'a> Reading<'a> {
         Ok((real, bits))
     }
 
-    /// A register as the text names it: `esp0`, `eax`, or `eax@2a`.
+    /// A register as the text names it: `esp0`, `eax`, as an instruction
+    /// left it, `eax@2a`, or as it left it the third time, `eax@2a#3`.
     fn register(&self, name: &str) -> Option<u32> {
         if name == "esp0" {
             return Some(self.beside.run.esp0());
         }
-        match name.split_once('@') {
-            Some((name, address)) => {
-                let step = self.behind_last(hexadecimal(address)?).ok()?;
-                Some(step.general[place::register(name)?])
-            }
-            None => Some(self.before().general[place::register(name)?]),
-        }
+        let Some((name, writer)) = name.split_once('@') else {
+            return Some(self.before().general[place::register(name)?]);
+        };
+        let (address, time) = writer.split_once('#').unwrap_or((writer, "1"));
+        let address = hexadecimal(address)?;
+        let steps = &self.beside.run.steps;
+        let visits = self.beside.visits[..=self.at].iter().enumerate();
+        let mut visits = visits.filter(|&(_, &visit)| steps[visit].ip == address);
+        let (at, _) = visits.nth(time.parse::<usize>().ok()?.checked_sub(1)?)?;
+        Some(self.behind_visit(at).general[place::register(name)?])
     }
 
-    /// Each visit that touches memory by an x87 instruction, the control
-    /// word apart, or decides, has a line; and where nothing was forgotten,
-    /// so has each place of the stack.
+    /// Each visit has its lines; and where nothing was forgotten, so has
+    /// each place of the stack.
     fn finish(self) -> Told {
-        let silent =
-            (0..self.beside.visits.len()).find(|at| !self.told.contains(at) && self.speaks(*at));
-        if let Some(at) = silent {
-            let ip = self.beside.run.steps[self.beside.visits[at]].ip;
-            return Err(format!("no line for {ip:x}"));
+        for (at, &visit) in self.beside.visits.iter().enumerate() {
+            let ip = self.beside.run.steps[visit].ip;
+            let least = self.beside.code.at(ip).map_or(0, least);
+            if self.told.get(&at).copied().unwrap_or(0) < least {
+                return Err(format!("lines are missing for {ip:x}"));
+            }
         }
-        let full = (0..8)
-            .filter(|&place| self.last().st(place).is_some())
-            .count();
+        if !self.ended {
+            return Err("the end is not told".to_owned());
+        }
+        let last = self.last();
+        let full = (0..8).filter(|&place| last.st(place).is_some()).count();
         if self.stack > full || !self.forgotten && self.stack < full {
             return Err(format!("{} places of {full} are told", self.stack));
         }
         Ok(())
     }
+}
 
-    /// Whether a visit must have a line.
-    fn speaks(&self, at: usize) -> bool {
-        let ip = self.beside.run.steps[self.beside.visits[at]].ip;
-        self.beside.code.at(ip).is_some_and(|code| {
-            let x87 = code.name.starts_with('f') && code.name != "fnstcw";
-            code.is_conditional_jump() || x87 && code.memory().is_some()
-        })
-    }
+/// How many lines a visit of an instruction has at least: one for what it
+/// loads or stores, and one for each flag or word that it writes. Nothing
+/// is said of a control word that is stored.
+fn least(code: &Instruction) -> usize {
+    let name = code.name.as_str();
+    let memory = name.starts_with('f') && name != "fnstcw" && code.memory().is_some();
+    let writes = match name {
+        "fcomi" | "fcomip" | "fucomi" | "fucomip" => 5,
+        "fnstsw" => 2,
+        "fcom" | "fcomp" | "fcompp" | "fucom" | "fucomp" | "fucompp" => 1,
+        _ if code.is_conditional_jump() => 1,
+        _ => 0,
+    };
+    writes + usize::from(memory)
 }
 
 /// What a line says of a conditional jump.

@@ -8,7 +8,7 @@ pub const ARENA: usize = 1024;
 pub const ARGUMENTS: usize = 896;
 
 /// Bytes of a step, without its changes.
-pub const STEP: usize = 128;
+pub const STEP: usize = 132;
 
 /// Memory from an address on.
 #[derive(Debug, Clone, PartialEq, Eq)]
@@ -33,7 +33,8 @@ pub struct Step {
     /// In the order of the processor's numbers: ax, cx, dx, bx, sp, bp,
     /// si, di.
     pub general: [u32; 8],
-    /// The x87 status word.
+    /// The x87 control word and status word.
+    pub control: u16,
     pub status: u16,
     tags: u16,
     registers: [[u8; 10]; 8],
@@ -127,19 +128,23 @@ fn half(bytes: &mut &[u8]) -> Option<u16> {
 }
 
 fn step(bytes: &mut &[u8]) -> Option<Step> {
-    let mut step = Step {
-        ip: word(bytes)?,
-        flags: word(bytes)?,
-        general: words(bytes)?,
-        status: half(bytes)?,
-        tags: half(bytes)?,
-        registers: registers(bytes)?,
-        changes: Vec::new(),
-    };
+    let (ip, flags, general) = (word(bytes)?, word(bytes)?, words(bytes)?);
+    let [control, status, tags, _] = [half(bytes)?, half(bytes)?, half(bytes)?, half(bytes)?];
+    let registers = registers(bytes)?;
+    let mut changes = Vec::new();
     for _ in 0..word(bytes)? {
-        step.changes.push((word(bytes)?, word(bytes)?));
+        changes.push((word(bytes)?, word(bytes)?));
     }
-    Some(step)
+    Some(Step {
+        ip,
+        flags,
+        general,
+        control,
+        status,
+        tags,
+        registers,
+        changes,
+    })
 }
 
 fn words(bytes: &mut &[u8]) -> Option<[u32; 8]> {

@@ -5,11 +5,13 @@ use std::io::{self, Write as _};
 use std::path::Path;
 
 use compiled::check::Check;
-use compiled::functions::{Function, GROUPS, Group, LEVELS};
+use compiled::code::Code;
+use compiled::functions::{DECLINED, Function, GROUPS, Group, LEVELS};
 use compiled::gcc::{Compiled, compile};
 use compiled::inputs::arena;
 use compiled::machine::Machine;
 use compiled::reading::Counts;
+use compiled::run::ARENA;
 use compiled::stored::{Records, file};
 use compiled::way::Asked;
 use differential::rng::Rng;
@@ -18,10 +20,22 @@ use program::{MISSING, Program};
 /// Runs of each function at each level.
 const RUNS: usize = 100;
 
+/// Kinds of lines that are compared.
+const KINDS: usize = 11;
+
 /// Past the test harness's capture.
-fn tell(line: &str) {
+fn left_out(why: &str) {
     // A line that cannot be written is no reason to fail.
-    let _ = writeln!(io::stderr(), "{line}");
+    let _ = writeln!(io::stderr(), "left out: {why}");
+}
+
+/// The program, or a line that says why nothing is tested.
+fn program() -> Option<Program> {
+    let program = Program::at_hand();
+    if program.is_none() {
+        left_out(MISSING);
+    }
+    program
 }
 
 /// A function of a disassembly, as it is asked for.
@@ -33,60 +47,90 @@ fn asked<'a>(objdump: &'a str, function: &Function) -> Asked<'a> {
     }
 }
 
-/// Compile a group and start its functions.
+/// Compile a group, start it, and see that a function runs.
 fn started(group: &Group, level: &str) -> io::Result<(Compiled, Machine)> {
     let compiled = compile(group, level, Path::new(env!("CARGO_TARGET_TMPDIR")))?;
-    let machine = Machine::start(&compiled.program)?;
+    let mut machine = Machine::start(&compiled.program)?;
+    let code = Code::of(&compiled.objdump, group.functions[0].name);
+    let entry = code
+        .and_then(|code| code.entry())
+        .ok_or(io::ErrorKind::NotFound)?;
+    machine.run(entry, &[0; ARENA])?;
     Ok((compiled, machine))
 }
 
-/// Run a function and compare, up to the first difference.
-fn compared(
-    check: &mut Check,
-    function: &Function,
-    machine: &mut Machine,
-    counts: &mut Counts,
-) -> Result<(), String> {
-    let mut rng = Rng::new(87);
-    let entry = check.entry().ok_or("a function has code")?;
-    for _ in 0..RUNS {
-        let arena = arena(function, machine.arena, &mut rng);
-        let run = machine.run(entry, &arena).map_err(|why| why.to_string())?;
-        check.run(&run, &machine.parts, counts)?;
+/// All that was compared.
+struct Test {
+    program: Program,
+    rng: Rng,
+    counts: Counts,
+    ways: usize,
+    differences: Vec<String>,
+}
+
+impl Test {
+    /// Run a function and compare, up to the first difference.
+    fn function(
+        &mut self,
+        objdump: &str,
+        function: &Function,
+        machine: &mut Machine,
+    ) -> Result<(), String> {
+        let program = self.program.clone();
+        let check = Check::new(&program, asked(objdump, function));
+        let mut check = check.ok_or("the function is not there")?;
+        let entry = check.entry().ok_or("a function has code")?;
+        for _ in 0..RUNS {
+            let arena = arena(function, machine.arena, &mut self.rng);
+            let run = machine.run(entry, &arena).map_err(|why| why.to_string())?;
+            check.run(&run, &machine.parts, &mut self.counts)?;
+        }
+        self.ways += check.texts().count();
+        let declined = check
+            .texts()
+            .find(|text| text.contains("the stack is forgotten here"));
+        match declined.filter(|_| !DECLINED.contains(&function.name)) {
+            Some(text) => Err(format!("{} is declined in\n{text}", function.name)),
+            None => Ok(()),
+        }
     }
-    Ok(())
+
+    fn group(&mut self, group: &Group, level: &str) -> io::Result<()> {
+        let (compiled, mut machine) = started(group, level)?;
+        for function in group.functions {
+            let told = self.function(&compiled.objdump, function, &mut machine);
+            let difference = told.err().map(|why| format!("{}{level} {why}", group.name));
+            self.differences.extend(difference);
+        }
+        Ok(())
+    }
 }
 
 #[test]
 fn texts_are_what_the_machine_does() {
-    let Some(program) = Program::at_hand() else {
-        tell(&format!("left out: {MISSING}"));
-        return;
+    let Some(program) = program() else { return };
+    let mut test = Test {
+        program,
+        rng: Rng::new(87),
+        counts: Counts::new(),
+        ways: 0,
+        differences: Vec::new(),
     };
-    let (mut counts, mut ways, mut runs) = (Counts::new(), 0, 0);
-    let mut differences = Vec::new();
     for (group, level) in all() {
-        let (compiled, mut machine) = match started(group, level) {
-            Ok(started) => started,
-            Err(why) => {
-                tell(&format!(
-                    "left out: no 32-bit code is made or run here ({why}); the stored runs are the test"
-                ));
-                return;
-            }
-        };
-        for function in group.functions {
-            let mut check =
-                Check::new(&program, asked(&compiled.objdump, function)).expect("it is there");
-            let told = compared(&mut check, function, &mut machine, &mut counts);
-            differences.extend(told.err().map(|why| format!("{}{level} {why}", group.name)));
-            ways += check.ways();
-            runs += RUNS;
+        if let Err(why) = test.group(group, level) {
+            left_out(&format!(
+                "32-bit code is not made or not run here, the recorded runs are the test: {why}"
+            ));
+            return;
         }
     }
-    tell(&format!("{runs} runs, {ways} ways: {counts:?}"));
-    assert!(differences.is_empty(), "{}", differences.join("\n"));
-    assert!(counts.len() == 9, "{counts:?}");
+    println!("{} ways: {:?}", test.ways, test.counts);
+    assert!(
+        test.differences.is_empty(),
+        "{}",
+        test.differences.join("\n")
+    );
+    assert_eq!(test.counts.len(), KINDS, "{:?}", test.counts);
 }
 
 /// Each group at each level.
@@ -98,10 +142,7 @@ fn all() -> impl Iterator<Item = (&'static Group, &'static str)> {
 
 #[test]
 fn texts_are_what_the_recorded_runs_did() {
-    let Some(program) = Program::at_hand() else {
-        tell(&format!("left out: {MISSING}"));
-        return;
-    };
+    let Some(program) = program() else { return };
     for (group, level) in all() {
         let objdump = fs::read_to_string(file(group, level, "objdump")).expect("it is stored");
         let stored = Records::load(group, level).expect("they are stored");
