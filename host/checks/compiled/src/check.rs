@@ -4,8 +4,9 @@ use std::collections::HashMap;
 
 use program::Program;
 
+use crate::beside::Beside;
 use crate::code::Code;
-use crate::reading::{Beside, Counts, compare};
+use crate::reading::{Counts, compare};
 use crate::run::{Part, Run};
 use crate::way::{Asked, Decisions, decisions, shown, visits};
 

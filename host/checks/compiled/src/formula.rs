@@ -99,10 +99,10 @@ impl Formula<'_> {
     }
 
     fn must_take(&mut self, sign: &str) -> Result<(), String> {
-        match self.takes(sign) {
-            true => Ok(()),
-            false => Err(format!("{sign} is missing before {}", self.rest)),
+        if self.takes(sign) {
+            return Ok(());
         }
+        Err(format!("{sign} is missing before {}", self.rest))
     }
 
     fn choice(&mut self) -> Result<Value, String> {

@@ -9,9 +9,11 @@
 //! in the processor's own 80-bit arithmetic ([`reading`], [`formula`],
 //! [`extended`]), and compared with what the machine did.
 //!
-//! `stored/` has disassemblies and recorded runs for machines where gcc
-//! makes no 32-bit code, or where such code does not run.
+//! `stored/` has disassemblies and a few recorded runs of each function,
+//! for machines where gcc makes no 32-bit code, or where such code does not
+//! run. `cargo run --offline -p compiled --bin store` writes them again.
 
+pub mod beside;
 pub mod check;
 pub mod code;
 pub mod extended;

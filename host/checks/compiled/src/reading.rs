@@ -11,12 +11,13 @@
 //! says of stores, flags, status words, `ax` and the stack is compared.
 
 use std::collections::{BTreeMap, HashMap};
+use std::fmt::Debug;
 
-use crate::code::{Code, Instruction};
+use crate::beside::Beside;
+use crate::code::Instruction;
 use crate::extended::Extended;
 use crate::formula::{self, Value};
-use crate::place;
-use crate::run::{Part, Run, Step};
+use crate::run::Step;
 
 /// The flags and their places in the processor's word.
 const FLAGS: [(&str, u32); 5] = [("CF", 0), ("PF", 2), ("ZF", 6), ("SF", 7), ("OF", 11)];
@@ -39,17 +40,6 @@ const ENOUGH: usize = 5;
 
 /// How often each kind of line was compared, or taken from the run.
 pub type Counts = BTreeMap<&'static str, usize>;
-
-/// A run with what is needed to read a text beside it.
-#[derive(Debug, Clone, Copy)]
-pub struct Beside<'a> {
-    pub run: &'a Run,
-    /// Memory that is only read.
-    pub parts: &'a [Part],
-    pub code: &'a Code,
-    /// The steps that are in the function, in their order.
-    pub visits: &'a [usize],
-}
 
 /// Compare a text with a run.
 ///
@@ -154,11 +144,8 @@ impl<'a> Reading<'a> {
     /// Whether a place of the stack held a number behind some visit of an
     /// instruction.
     fn was_made(&self, number: Extended, address: u32) -> bool {
-        let steps = &self.beside.run.steps;
-        let visits = self.beside.visits[..=self.at].iter().enumerate();
-        let mut visits = visits.filter(|&(_, &visit)| steps[visit].ip == address);
-        visits.any(|(at, _)| {
-            let behind = self.behind_visit(at);
+        self.beside.visits_of(address, self.at).any(|at| {
+            let behind = self.beside.behind(at);
             (0..8).any(|place| behind.st(place).is_some_and(|held| held.is_same(number)))
         })
     }
@@ -196,54 +183,33 @@ impl<'a> Reading<'a> {
         self.ended = true;
         same(self.at + 1, self.beside.visits.len())?;
         let told = words.contains(" ends here, at the return");
-        same(told, self.instruction()?.name == "ret")
+        let real = self.beside.instruction(self.at);
+        same(told, real.is_some_and(|code| code.name == "ret"))
     }
 
     /// Go to the visit of a line; to the next one, where this one's
     /// decision was told.
     fn go_to(&mut self, address: u32, decision: bool) -> Told {
         let told = decision && self.told.contains_key(&self.at);
-        let steps = &self.beside.run.steps;
-        let mut visits = self.beside.visits.iter().enumerate();
-        let found = visits
-            .find(|&(at, &visit)| at >= self.at + usize::from(told) && steps[visit].ip == address);
-        let (at, _) = found.ok_or("the run does not come here")?;
-        self.at = at;
+        let found = self.beside.next(self.at + usize::from(told), address);
+        self.at = found.ok_or("the run does not come here")?;
         Ok(())
     }
 
     /// The state before the instruction of the line.
-    fn before(&self) -> &Step {
-        &self.beside.run.steps[self.beside.visits[self.at]]
+    fn before(&self) -> &'a Step {
+        self.beside.before(self.at)
     }
 
     /// The state behind it.
-    fn behind(&self) -> &Step {
-        self.behind_visit(self.at)
+    fn behind(&self) -> &'a Step {
+        self.beside.behind(self.at)
     }
 
-    /// The state behind a visit: behind a call, that of its return.
-    fn behind_visit(&self, at: usize) -> &Step {
-        &self.beside.run.steps[self.step_behind(at)]
-    }
-
-    fn step_behind(&self, at: usize) -> usize {
-        let visits = self.beside.visits;
-        visits.get(at + 1).copied().unwrap_or(visits[at] + 1)
-    }
-
-    /// The state behind the last visit of an address, from the line's own
-    /// visit back.
-    fn behind_last(&self, address: u32) -> Result<&Step, String> {
-        let steps = &self.beside.run.steps;
-        let mut visits = self.beside.visits[..=self.at].iter();
-        let last = visits.rposition(|&visit| steps[visit].ip == address);
-        Ok(self.behind_visit(last.ok_or("the run did not come there")?))
-    }
-
-    fn instruction(&self) -> Result<&Instruction, String> {
-        let code = self.beside.code.at(self.before().ip);
-        Ok(code.ok_or("no instruction")?)
+    /// The state behind the last visit of an address.
+    fn behind_last(&self, address: u32) -> Result<&'a Step, String> {
+        let step = self.beside.behind_last(address, self.at);
+        Ok(step.ok_or("the run did not come there")?)
     }
 
     fn value(&self, formula: &str) -> Result<Value, String> {
@@ -272,7 +238,7 @@ impl<'a> Reading<'a> {
             return Ok(Value::Held);
         }
         let (place, step) = if let Some(place) = what.strip_suffix(" on entry") {
-            (place, &self.beside.run.steps[self.beside.visits[0]])
+            (place, self.beside.before(0))
         } else {
             let (place, address) = what.split_once(" behind ").ok_or("what is this input?")?;
             let address = hexadecimal(address).ok_or("behind what?")?;
@@ -285,7 +251,7 @@ impl<'a> Reading<'a> {
 
     /// What is said of the control word that was loaded.
     fn control(&mut self, what: &str) -> Told {
-        let (entry, real) = (self.beside.run.steps[0].control, self.behind().control);
+        let (entry, real) = (self.beside.before(0).control, self.behind().control);
         self.tell(1);
         self.count("control words");
         let what = what.split(", if ").next().unwrap_or(what);
@@ -302,18 +268,13 @@ impl<'a> Reading<'a> {
     fn stack(&mut self, text: &str, formula: &str) -> Told {
         let place = place_of_stack(text).ok_or("which place?")?;
         let told = self.value(formula)?.number()?;
-        let real = self.last().st(place).ok_or("the place is empty")?;
+        let real = self.beside.last().st(place).ok_or("the place is empty")?;
         self.count("places of the stack");
         self.stack += 1;
         if told.is_same(real) {
             return Ok(());
         }
         Err(format!("told {told:x?}, real {real:x?}"))
-    }
-
-    /// The state where the way ends.
-    fn last(&self) -> &Step {
-        self.behind_visit(self.beside.visits.len() - 1)
     }
 
     fn assignment(&mut self, left: &str, right: &str) -> Told {
@@ -404,8 +365,8 @@ impl<'a> Reading<'a> {
             .and_then(|width| width.parse().ok());
         let (address, bits) = self.place(place)?;
         same(width, Some(bits))?;
-        let at = self.beside.visits[self.at];
-        let loaded = self.memory(at, address, bits)?;
+        let loaded = self.beside.memory_before(self.at, address, bits);
+        let loaded = loaded.ok_or("memory that is not known")?;
         let value = match self.behind().st(0) {
             Some(held) if bits == 80 => Value::Image(loaded, held),
             _ => Value::Bits(loaded, bits),
@@ -418,8 +379,8 @@ impl<'a> Reading<'a> {
     fn store(&mut self, place: &str, formula: &str) -> Told {
         let (address, bits) = self.place(place)?;
         let told = self.value(formula)?;
-        let behind = self.step_behind(self.at);
-        let real = self.memory(behind, address, bits)?;
+        let real = self.beside.memory_behind(self.at, address, bits);
+        let real = real.ok_or("memory that is not known")?;
         self.count("stores");
         if told.is_memory(real, bits)? {
             return Ok(());
@@ -427,57 +388,31 @@ impl<'a> Reading<'a> {
         Err(format!("told {told:x?}, real {real:x}"))
     }
 
-    fn memory(&self, at: usize, address: u32, bits: u32) -> Result<u128, String> {
-        let memory = self.beside.run.memory(self.beside.parts, at, address, bits);
-        memory.ok_or_else(|| format!("{address:x} is outside"))
-    }
-
     /// The real address and width of the instruction's memory operand,
-    /// which must be those of the place in the text.
+    /// which must be those of the place in the text. A text stands for one
+    /// place only.
     fn place(&mut self, text: &str) -> Result<(u32, u32), String> {
-        let told = place::address(text, |register| self.register(register));
-        let before = self.before();
-        let general = |name: &str| place::register(name).map(|at| before.general[at]);
-        let (bits, operand) = self.instruction()?.memory().ok_or("no memory operand")?;
-        let real = place::address(operand, general).ok_or("no address")?;
+        let told = self.beside.place(self.at, text);
+        let (real, bits) = self.beside.operand(self.at).ok_or("no memory operand")?;
         same(told, Some(real))?;
         let before = self.places.insert(text.to_owned(), real);
         same(before.unwrap_or(real), real)?;
         Ok((real, bits))
     }
 
-    /// A register as the text names it: `esp0`, `eax`, as an instruction
-    /// left it, `eax@2a`, or as it left it the third time, `eax@2a#3`.
-    fn register(&self, name: &str) -> Option<u32> {
-        if name == "esp0" {
-            return Some(self.beside.run.esp0());
-        }
-        let Some((name, writer)) = name.split_once('@') else {
-            return Some(self.before().general[place::register(name)?]);
-        };
-        let (address, time) = writer.split_once('#').unwrap_or((writer, "1"));
-        let address = hexadecimal(address)?;
-        let steps = &self.beside.run.steps;
-        let visits = self.beside.visits[..=self.at].iter().enumerate();
-        let mut visits = visits.filter(|&(_, &visit)| steps[visit].ip == address);
-        let (at, _) = visits.nth(time.parse::<usize>().ok()?.checked_sub(1)?)?;
-        Some(self.behind_visit(at).general[place::register(name)?])
-    }
-
     /// Each visit has its lines; and where nothing was forgotten, so has
     /// each place of the stack.
     fn finish(self) -> Told {
-        for (at, &visit) in self.beside.visits.iter().enumerate() {
-            let ip = self.beside.run.steps[visit].ip;
-            let least = self.beside.code.at(ip).map_or(0, least);
+        for at in 0..self.beside.visits.len() {
+            let least = self.beside.instruction(at).map_or(0, least);
             if self.told.get(&at).copied().unwrap_or(0) < least {
-                return Err(format!("lines are missing for {ip:x}"));
+                return Err(format!("no line for {:x}", self.beside.before(at).ip));
             }
         }
         if !self.ended {
             return Err("the end is not told".to_owned());
         }
-        let last = self.last();
+        let last = self.beside.last();
         let full = (0..8).filter(|&place| last.st(place).is_some()).count();
         if self.stack > full || !self.forgotten && self.stack < full {
             return Err(format!("{} places of {full} are told", self.stack));
@@ -542,7 +477,7 @@ fn hexadecimal(text: &str) -> Option<u32> {
     u32::from_str_radix(text, 16).ok()
 }
 
-fn same<T: PartialEq + std::fmt::Debug>(told: T, real: T) -> Told {
+fn same<T: Copy + PartialEq + Debug>(told: T, real: T) -> Told {
     if told == real {
         return Ok(());
     }

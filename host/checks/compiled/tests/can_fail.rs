@@ -4,9 +4,10 @@
 use std::fs;
 use std::io::{self, Write as _};
 
+use compiled::beside::Beside;
 use compiled::code::Code;
 use compiled::functions::{GROUPS, LEVELS};
-use compiled::reading::{Beside, Counts, compare};
+use compiled::reading::{Counts, compare};
 use compiled::run::{Part, Run};
 use compiled::stored::{Record, Records, file};
 use compiled::way::{Asked, decisions, shown, visits};

@@ -116,21 +116,20 @@ fn texts_are_what_the_machine_does() {
         ways: 0,
         differences: Vec::new(),
     };
+    let mut whole = true;
     for (group, level) in all() {
         if let Err(why) = test.group(group, level) {
             left_out(&format!(
-                "32-bit code is not made or not run here, the recorded runs are the test: {why}"
+                "{}{level} is not compiled or not run here, its recorded runs are the test: {why}",
+                group.name
             ));
-            return;
+            whole = false;
         }
     }
     println!("{} ways: {:?}", test.ways, test.counts);
-    assert!(
-        test.differences.is_empty(),
-        "{}",
-        test.differences.join("\n")
-    );
-    assert_eq!(test.counts.len(), KINDS, "{:?}", test.counts);
+    let differences = test.differences.join("\n");
+    assert!(differences.is_empty(), "{differences}");
+    assert!(!whole || test.counts.len() == KINDS, "{:?}", test.counts);
 }
 
 /// Each group at each level.
