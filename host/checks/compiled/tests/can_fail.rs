@@ -86,100 +86,111 @@ fn cases(
     cases.collect()
 }
 
-/// A group, a level, a function, and what is changed in its texts.
-type Edit = (
-    &'static str,
-    &'static str,
-    &'static str,
-    &'static str,
-    &'static str,
-);
+/// A function of a group at a level, and what is changed in its texts, one
+/// after the other.
+type Edits = ([&'static str; 3], &'static [[&'static str; 2]]);
 
-const EDITS: &[Edit] = &[
-    // Operators, and the order of their operands.
-    ("numbers", "-O2", "distance", " + ", " - "),
-    ("numbers", "-O2", "distance", " * ", " / "),
-    ("numbers", "-O2", "distance", "sqrt(", "abs("),
-    ("numbers", "-O2", "negated", "abs(", "("),
+const EDITS: &[Edits] = &[
     (
-        "numbers",
-        "-O2",
-        "negated",
-        "m0 - abs(s1 - s2)",
-        "abs(s1 - s2) - m0",
-    ),
-    ("numbers", "-O2", "across", "s2 - in0 * s2", "in0 * s2 - s2"),
-    // Roundings and constants.
-    ("numbers", "-O2", "to_int", "trunc(", "round("),
-    ("numbers", "-O0", "to_short", "trunc(", "("),
-    ("whole", "-O2", "nearest", "round(", "trunc("),
-    ("numbers", "-O2", "stored", "f64(", "f32("),
-    ("compares", "-O2", "sign", "= 1.0", "= 2.0"),
-    ("compares", "-O2", "sign", "= -1.0", "= 1.0"),
-    ("numbers", "-O2", "sum", "= 0.0", "= -0.0"),
-    // Places and widths.
-    ("numbers", "-O2", "both", "[esp0+0x8]", "[esp0+0xc]"),
-    ("numbers", "-O2", "both", "[eax+0x8] :=", "[eax+0x4] :="),
-    ("numbers", "-O2", "both", "[eax] :=", "[ecx] :="),
-    ("numbers", "-O2", "stored", "80 bits", "64 bits"),
-    ("numbers", "-O2", "scaled", "[esp0-0x4]", "[esp0-0x8]"),
-    ("numbers", "-O2", "scaled", "#2", ""),
-    // Flags, and who wrote them.
-    ("compares", "-O2", "chosen", " < ", " == "),
-    ("compares", "-O2", "chosen", "CF2 || ZF2", "CF1 || ZF1"),
-    (
-        "compares",
-        "-O2",
-        "chosen",
-        "as cmp at 8049080 wrote it: integer code",
-        "as fcomi at 8049078 wrote it",
+        ["numbers", "-O2", "distance"],
+        &[[" + ", " - "], [" * ", " / "], ["sqrt(", "abs("]],
     ),
     (
-        "compares",
-        "-O2",
-        "chosen",
-        "as fcomi at 8049078",
-        "as cmp at 8049080",
+        ["numbers", "-O2", "negated"],
+        &[["abs(", "("], ["m0 - abs(s1 - s2)", "abs(s1 - s2) - m0"]],
     ),
-    ("compares", "-O2", "order", "s2 == s1", "s1 < s2"),
-    ("compares", "-O2", "order", "not taken", "taken"),
-    ("compares-i386", "-O2", "order", "C3: ", "C3: !"),
-    ("compares-i386", "-O2", "order", "ax := fsw2", "ax := fsw1"),
-    // The control word, inputs and ends.
     (
-        "whole",
-        "-O2",
-        "floor_of",
-        "the code rounds down, as floor",
-        "the code rounds up, as ceil",
+        ["numbers", "-O2", "across"],
+        &[["s2 - in0 * s2", "in0 * s2 - s2"]],
     ),
-    ("whole", "-O2", "floor_of", "precision 64", "precision 53"),
+    (["numbers", "-O2", "to_int"], &[["trunc(", "round("]]),
+    (["numbers", "-O0", "to_short"], &[["trunc(", "("]]),
+    (["whole", "-O2", "nearest"], &[["round(", "trunc("]]),
     (
-        "whole",
-        "-O2",
-        "remainder_of",
-        "is st(0) behind",
-        "is st(1) behind",
+        ["numbers", "-O2", "sum"],
+        &[["= 0.0", "= -0.0"], ["= 0.0 + m0", "= m0 + m0"]],
     ),
-    ("numbers", "-O2", "mixed", "number(s3, in0)", "in0"),
+    (
+        ["compares", "-O2", "sign"],
+        &[["= 1.0", "= 2.0"], ["= -1.0", "= 1.0"]],
+    ),
+    (
+        ["numbers", "-O2", "both"],
+        &[
+            ["[esp0+0x8]", "[esp0+0xc]"],
+            ["[eax+0x8] :=", "[eax+0x4] :="],
+            ["[eax] :=", "[ecx] :="],
+        ],
+    ),
+    (
+        ["numbers", "-O2", "stored"],
+        &[["80 bits", "64 bits"], ["f64(", "f32("]],
+    ),
+    (
+        ["numbers", "-O2", "scaled"],
+        &[["[esp0-0x4]", "[esp0-0x8]"], ["#2", ""]],
+    ),
+    (
+        ["compares", "-O2", "chosen"],
+        &[
+            [" < ", " == "],
+            ["CF2 || ZF2", "CF1 || ZF1"],
+            [
+                "as cmp at 8049080 wrote it: integer code",
+                "as fcomi at 8049078 wrote it",
+            ],
+            ["as fcomi at 8049078", "as cmp at 8049080"],
+        ],
+    ),
+    (
+        ["compares", "-O2", "order"],
+        &[["s2 == s1", "s1 < s2"], ["not taken", "taken"]],
+    ),
+    (
+        ["compares-i386", "-O2", "order"],
+        &[["C3: ", "C3: !"], ["ax := fsw2", "ax := fsw1"]],
+    ),
+    (
+        ["whole", "-O2", "floor_of"],
+        &[
+            [
+                "rounds down, as floor does, p",
+                "rounds up, as ceil does, p",
+            ],
+            ["precision 64", "precision 53"],
+        ],
+    ),
+    (
+        ["whole", "-O2", "remainder_of"],
+        &[["is st(0) behind", "is st(1) behind"]],
+    ),
+    (
+        ["numbers", "-O2", "tail"],
+        &[["which is no return", "at the return"]],
+    ),
 ];
+
+/// Nothing is changed.
+const UNCHANGED: [&str; 2] = ["", ""];
+
+/// What is seen of a change in the texts of these runs: a difference, or
+/// that the text does not fit the run.
+fn seen(cases: &[Case], [from, to]: [&str; 2]) -> Option<String> {
+    let changed = cases.iter().map(|case| (case, case.text.replace(from, to)));
+    changed
+        .filter_map(|(case, text)| case.told(&text).err())
+        .next()
+}
 
 #[test]
 fn what_is_changed_is_seen() {
     let Some(program) = program() else { return };
-    let mut unseen = Vec::new();
-    for edit in EDITS {
-        let (group, level, function, from, to) = *edit;
+    for &([group, level, function], edits) in EDITS {
         let cases = cases(&program, (group, level), |name| name == function, false);
-        let seen = cases.iter().filter(|case| {
-            assert_eq!(case.told(&case.text), Ok(()));
-            case.told(&case.text.replace(from, to)).is_err()
-        });
-        if seen.count() == 0 {
-            unseen.push(edit);
-        }
+        assert_eq!(seen(&cases, UNCHANGED), None, "{function}");
+        let unseen = edits.iter().find(|&&edit| seen(&cases, edit).is_none());
+        assert_eq!(unseen, None, "{function}");
     }
-    assert!(unseen.is_empty(), "{unseen:#?}");
 }
 
 /// Whether a line says something that must not be left out: a formula, but
@@ -192,31 +203,25 @@ fn is_needed(line: &str, text: &str) -> bool {
     !(body.starts_with("st(") && text.contains("the stack is forgotten here"))
 }
 
+/// A line that can be left out of a text.
+fn spare(case: &Case) -> Option<&str> {
+    let lines: Vec<&str> = case.text.lines().collect();
+    let needed = (0..lines.len()).filter(|&at| is_needed(lines[at], &case.text));
+    let mut spare = needed.filter(|&at| {
+        let others = [&lines[..at], &lines[at + 1..]].concat();
+        case.told(&others.join("\n")).is_ok()
+    });
+    spare.next().map(|at| lines[at])
+}
+
 #[test]
 fn what_is_left_out_is_seen() {
     let Some(program) = program() else { return };
-    for (group, level) in GROUPS
+    let levels = GROUPS
         .iter()
-        .flat_map(|group| LEVELS.map(|level| (group, level)))
-    {
-        for case in cases(&program, (group.name, level), |_| true, false) {
-            let lines = case.text.lines().enumerate();
-            for (at, line) in lines.filter(|(_, line)| is_needed(line, &case.text)) {
-                let others = case
-                    .text
-                    .lines()
-                    .enumerate()
-                    .filter(|(other, _)| *other != at);
-                let others: Vec<&str> = others.map(|(_, line)| line).collect();
-                let told = case.told(&others.join("\n"));
-                assert!(
-                    told.is_err(),
-                    "{line} of {} in\n{}",
-                    case.function,
-                    case.text
-                );
-            }
-        }
+        .flat_map(|group| LEVELS.map(|level| (group.name, level)));
+    for case in levels.flat_map(|level| cases(&program, level, |_| true, false)) {
+        assert_eq!(spare(&case), None, "{} in\n{}", case.function, case.text);
     }
 }
 
@@ -227,7 +232,7 @@ fn a_control_word_that_is_not_followed_is_seen() {
     let Some(program) = program() else { return };
     for level in LEVELS {
         let cases = cases(&program, ("numbers", level), |name| name == "to_int", true);
-        let wrong = cases.iter().filter(|case| case.told(&case.text).is_err());
-        assert!(wrong.count() > 0, "{level}");
+        let why = seen(&cases, UNCHANGED).expect("it is seen");
+        assert!(why.contains(":= i32(in0): told "), "{why}");
     }
 }
