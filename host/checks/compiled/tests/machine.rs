@@ -125,7 +125,7 @@ fn texts_are_what_the_machine_does() {
     if let Some(first) = failed.first() {
         let count = failed.len();
         left_out(&format!(
-            "{count} groups are not compiled or not run here, their recorded runs are the test; {first}"
+            "{count} groups are not compiled or not run here, recorded runs are the test; {first}"
         ));
     }
     println!("{} ways: {:?}", test.ways, test.counts);
