@@ -238,7 +238,7 @@ fn stack_word(lines: &[Line]) -> i64 {
 /// One way through the code.
 fn one_way(way: &Way, callees: &mut Callees, options: &Options) -> Result<Translated, Wrong> {
     let machines = along(&way.steps, callees);
-    let code = way.steps.iter().map(|step| &step.code);
+    let code = way.steps.iter().map(|step| &step.code).zip(&machines);
     let mut work = Work::new(options, callees, code);
     for (step, machine) in way.steps.iter().zip(&machines) {
         work.step(step, machine)?;
@@ -256,6 +256,7 @@ fn whole(
 ) -> Result<Translated, Wrong> {
     let machines = through(lines, callees);
     let code = lines.iter().filter_map(Line::code);
+    let code = code.map(|code| (code, &machines[&code.address]));
     let mut work = Work::new(options, callees, code);
     for line in lines {
         match line {

@@ -158,6 +158,42 @@ impl Machine {
         Some(place)
     }
 
+    /// The memory operands of an instruction, and their bytes.
+    pub fn places(&self, code: &Code) -> Vec<(Place, i64)> {
+        let texts = code.operands.iter().filter_map(|text| memory(text));
+        let place = |text: String| Some((self.place(&text, code)?, bytes(&text)));
+        texts.filter_map(place).collect()
+    }
+
+    /// The memory that an instruction which passes writes, as far as its
+    /// place is known.
+    pub fn written(&self, code: &Code, calls: &dyn Calls) -> Vec<(Place, i64)> {
+        if code.name == "push" {
+            let bytes = entry_bytes(code, calls);
+            let below = |top: Place| Place {
+                offset: top.offset - bytes,
+                ..top
+            };
+            return self
+                .top()
+                .map(below)
+                .map(|top| (top, bytes))
+                .into_iter()
+                .collect();
+        }
+        let numbers = if effects::is_x87(&code.name) {
+            vec![0; usize::from(effects::stores(code))]
+        } else {
+            effects::operands(code)
+        };
+        let texts = numbers
+            .into_iter()
+            .filter_map(|number| code.operands.get(number));
+        let texts = texts.filter_map(|text| memory(text));
+        let place = |text: String| Some((self.place(&text, code)?, bytes(&text)));
+        texts.filter_map(place).collect()
+    }
+
     /// What is known behind an instruction.
     pub fn step(&mut self, code: &Code, calls: &dyn Calls) {
         let at = code.address;

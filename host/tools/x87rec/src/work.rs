@@ -3,16 +3,17 @@
 use std::collections::HashMap;
 
 use notes::{Event, Notes, Record, What};
-use sleetgate::{Instruction, write_record};
+use sleetgate::{Instruction, Operand, Place as Numbers, write_record};
 
 use crate::control::{Verdict, loaded, verdict};
-use crate::effects::{FLAG_COMPARES, FLAG_NAMES, is_x87, reads, reads_status};
+use crate::effects::{FLAG_COMPARES, FLAG_NAMES, is_x87, reads, reads_status, stores};
 use crate::flow::Callees;
 use crate::line::Code;
 use crate::machine::{Calls, Machine, Writer};
 use crate::operand::Numbering;
 use crate::passing::passes;
 use crate::path::{End, Step, Way};
+use crate::place::Place;
 use crate::{Options, Translated, Wrong};
 
 /// The name of a record that stands for an entry from elsewhere.
@@ -43,16 +44,26 @@ pub struct Work<'a> {
     /// Whether a call was met.
     called: bool,
     names: HashMap<u64, &'a str>,
+    /// The places that x87 instructions name, and their bytes; those of
+    /// control words are left out.
+    used: Vec<(Place, i64)>,
     callees: &'a Callees,
     options: &'a Options,
 }
 
 impl<'a> Work<'a> {
-    pub fn new(
+    pub fn new<'b>(
         options: &'a Options,
         callees: &'a Callees,
-        code: impl Iterator<Item = &'a Code>,
+        code: impl Iterator<Item = (&'a Code, &'b Machine)> + Clone,
     ) -> Self {
+        let counts = |name: &str| is_x87(name) && !CONTROL.contains(&name);
+        let x87 = code.clone().filter(|(code, _)| counts(&code.name));
+        let mut used: Vec<_> = x87
+            .flat_map(|(code, machine)| machine.places(code))
+            .collect();
+        used.sort_unstable();
+        used.dedup();
         Self {
             done: Translated::default(),
             numbering: Numbering::default(),
@@ -61,8 +72,9 @@ impl<'a> Work<'a> {
             symbol: None,
             called: false,
             names: code
-                .map(|code| (code.address, code.name.as_str()))
+                .map(|(code, _)| (code.address, code.name.as_str()))
                 .collect(),
+            used,
             callees,
             options,
         }
@@ -116,15 +128,41 @@ impl<'a> Work<'a> {
             self.loads(code, machine);
         }
         if passes && !self.options.every {
+            self.overwrites(code, machine);
             *self.done.passed.entry(code.name.clone()).or_default() += 1;
             return Ok(());
         }
         self.record(code, machine)
     }
 
+    /// Say that integer code writes where x87 instructions read or write.
+    fn overwrites(&mut self, code: &Code, machine: &Machine) {
+        let written = machine.written(code, self.callees);
+        let overlaps = |(place, bytes): &&(Place, i64)| {
+            written.iter().any(|(other, more)| {
+                place.is_beside(other)
+                    && place.offset < other.offset + more
+                    && other.offset < place.offset + bytes
+            })
+        };
+        let pointer = self.pointer();
+        let named = self.used.iter().filter(overlaps);
+        let mut places: Vec<String> = named
+            .map(|(place, _)| place.text(pointer, !place.is_on_stack()))
+            .collect();
+        places.dedup();
+        if !places.is_empty() {
+            let words = format!("writes to {}, which is not lifted", places.join(", "));
+            self.remark(code, &words);
+        }
+    }
+
     /// Hand an instruction over, as what it is under the control word.
     fn record(&mut self, code: &Code, machine: &Machine) -> Result<(), Wrong> {
         let mut insn = self.numbering.instruction(code, machine)?;
+        let writes = stores(code)
+            .then(|| insn.operands.first().and_then(number))
+            .flatten();
         let mut why = None;
         if !self.options.assume_reset {
             match verdict(code, machine.control, machine.changed) {
@@ -144,6 +182,7 @@ impl<'a> Work<'a> {
             bytes: bytes(&insn),
             text: code.text(),
             why,
+            writes,
             reads: self.reads(code, machine),
         };
         // All names that the lifter models begin with an `f`.
@@ -262,6 +301,7 @@ impl<'a> Work<'a> {
             bytes: bytes(&entry),
             text: String::new(),
             why: Some("entered from elsewhere".to_owned()),
+            writes: None,
             reads: Vec::new(),
         };
         self.event(address, What::Record(record));
@@ -323,6 +363,17 @@ impl<'a> Work<'a> {
             events: self.done.notes.events,
         };
         self.done
+    }
+}
+
+/// The address number of a memory operand, 0 where it is not known.
+fn number(operand: &Operand) -> Option<u32> {
+    match operand {
+        Operand::Memory { place, .. } => Some(match place {
+            Numbers::Unknown => 0,
+            Numbers::Address(address) | Numbers::Slot { address, .. } => *address,
+        }),
+        _ => None,
     }
 }
 

@@ -166,3 +166,44 @@ fn a_segment_or_an_odd_address_is_not_known() {
         assert_eq!(on_way(&[line]), ["unknown"], "{line}");
     }
 }
+
+#[test]
+fn integer_code_that_writes_where_x87_code_reads_is_told() {
+    let lines = [
+        "mov DWORD PTR [esp+0x8],eax",
+        "fld QWORD PTR [esp+0x4]",
+        "mov BYTE PTR [esp+0xb],al",
+        "mov BYTE PTR [esp+0xc],al",
+        "cmp DWORD PTR [esp+0x8],eax",
+        "push eax",
+        "fstp DWORD PTR [esp]",
+        "inc DWORD PTR [ecx]",
+        "fld DWORD PTR [ecx]",
+    ];
+    let told: Vec<String> = remarks(&with(&text(&lines), &path(&[])));
+    let expected = [
+        "0 mov DWORD PTR [esp+0x8], eax: writes to [esp0+0x4], which is not lifted",
+        "20 mov BYTE PTR [esp+0xb], al: writes to [esp0+0x4], which is not lifted",
+        "50 push eax: writes to [esp0-0x4], which is not lifted",
+        "70 inc DWORD PTR [ecx]: writes to [ecx], which is not lifted",
+    ];
+    assert_eq!(told[..4], expected);
+    assert_eq!(told.len(), 5);
+}
+
+#[test]
+fn where_a_declined_store_goes_is_told() {
+    let lines = [
+        "fldcw WORD PTR [eax]",
+        "fistp DWORD PTR [esp+0x4]",
+        "fbstp TBYTE PTR gs:0x14",
+    ];
+    let told = with(&text(&lines), &path(&[]));
+    let writes: Vec<_> = told
+        .notes
+        .records()
+        .map(|(_, record)| record.writes)
+        .collect();
+    assert_eq!(writes, [Some(1), Some(0)]);
+    assert_eq!(told.notes.addresses, ["[esp0+0x4]"]);
+}

@@ -320,9 +320,31 @@ impl<'a> Page<'a> {
                 format!("{} := {}", flag_name(flag), self.formula(node))
             }
             Statement::Ax { node } => format!("ax := {}", self.formula(node)),
-            Statement::Unsupported { answer, address } => declined(answer, address, record),
+            Statement::Unsupported { answer, address } => self.declined(answer, address, record),
         };
         self.line(&line);
+    }
+
+    /// What is said of a decline.
+    fn declined(&self, answer: Why, address: u64, record: Option<&Record>) -> String {
+        let (begin, why) = match record {
+            None => (format!("{address:#x}: "), None),
+            Some(record) if record.text.is_empty() => (String::new(), record.why.as_ref()),
+            Some(record) => (format!("{}: ", record.text), record.why.as_ref()),
+        };
+        let words = match (answer, why) {
+            (Why::Form, Some(why)) => why.clone(),
+            _ => answer.to_string(),
+        };
+        let stored = match record.and_then(|record| record.writes) {
+            None => String::new(),
+            Some(0) => ", and where and what it stores is not known".to_owned(),
+            Some(number) => {
+                let place = self.place(number.into());
+                format!(", and what it stores to {place} is not known")
+            }
+        };
+        format!("-- {begin}{words}: the stack is forgotten here{stored}")
     }
 
     /// An address number's text.
@@ -464,18 +486,4 @@ impl<'a> Page<'a> {
         };
         format!("{name}({})", parts.join(", "))
     }
-}
-
-/// What is said of a decline.
-fn declined(answer: Why, address: u64, record: Option<&Record>) -> String {
-    let (begin, why) = match record {
-        None => (format!("{address:#x}: "), None),
-        Some(record) if record.text.is_empty() => (String::new(), record.why.as_ref()),
-        Some(record) => (format!("{}: ", record.text), record.why.as_ref()),
-    };
-    let words = match (answer, why) {
-        (Why::Form, Some(why)) => why.clone(),
-        _ => answer.to_string(),
-    };
-    format!("-- {begin}{words}: the stack is forgotten here")
 }
