@@ -12,8 +12,8 @@ use crate::listing::{Listing, named};
 use crate::terms::{Id, Term};
 use crate::trace::Span;
 
-/// A part with more leaves than this has a name of its own.
-const LONG: usize = 9;
+/// A part of more terms than this has a name of its own.
+const LONG: usize = 15;
 
 /// How tightly a choice, signs before a term and whole terms bind.
 const CHOICE: u8 = 0;
