@@ -146,7 +146,7 @@ fn up_to_16384_bytes_are_taken() {
 }
 
 #[test]
-fn the_program_lists_as_document_01_and_the_rust() {
+fn the_program_lists_as_the_manual_and_the_rust() {
     let Some(program) = Program::at_hand() else {
         left_out(MISSING);
         return;
