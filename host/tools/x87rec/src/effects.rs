@@ -141,6 +141,15 @@ pub fn writes_status(code: &Code) -> bool {
     STATUS.contains(&name) || unknown
 }
 
+/// Whether an instruction may change the rest of the status word: all x87
+/// instructions but those that only look at it or at the control word.
+pub fn disturbs_status(code: &Code) -> bool {
+    let looks = [
+        "fldcw", "fnop", "fnstcw", "fnstsw", "fstcw", "fstsw", "fwait", "wait",
+    ];
+    is_x87(&code.name) && !looks.contains(&code.name.as_str())
+}
+
 /// Whether an x87 instruction reads the status word.
 pub fn reads_status(name: &str) -> bool {
     matches!(name, "fstsw" | "fnstsw")

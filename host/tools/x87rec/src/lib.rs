@@ -200,7 +200,8 @@ impl fmt::Display for Translated {
 /// many bytes.
 pub fn translate(text: &str, options: &Options) -> Result<Translated, Wrong> {
     let all = line::all(text)?;
-    let mut callees = Callees::of(&all, stack_word(&all));
+    let (word, apart) = (stack_word(&all), twice(&all).is_none());
+    let told = apart.then(|| Callees::of(&all, word));
     let targets: BTreeSet<u64> = all
         .iter()
         .filter_map(Line::code)
@@ -210,6 +211,17 @@ pub fn translate(text: &str, options: &Options) -> Result<Translated, Wrong> {
         Some(function) => wanted::function(all, function)?,
         None => all,
     };
+    if let Some(code) = twice(&lines) {
+        let why = format!(
+            "{:x} stands there twice: take one function (--function)",
+            code.address
+        );
+        let line = code.line;
+        return Err(Wrong { line, why });
+    }
+    // Where sections begin at the same address, only its own lines tell
+    // what a function calls.
+    let mut callees = told.unwrap_or_else(|| Callees::of(&lines, word));
     let translated = match &options.path {
         Some(takes) => {
             let way = path::follow(lines, takes)?;
@@ -218,6 +230,13 @@ pub fn translate(text: &str, options: &Options) -> Result<Translated, Wrong> {
         None => whole(&lines, &targets, &mut callees, options),
     }?;
     fits(translated)
+}
+
+/// The first line whose address an earlier one has.
+fn twice(lines: &[Line]) -> Option<&line::Code> {
+    let mut met = BTreeSet::new();
+    let mut code = lines.iter().filter_map(Line::code);
+    code.find(|code| !met.insert(code.address))
 }
 
 /// The bytes of an entry on the stack: eight where a line names a register

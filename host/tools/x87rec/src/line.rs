@@ -259,6 +259,16 @@ impl Code {
         self.name == "call"
     }
 
+    /// Whether this calls the line behind it, which then pops its address.
+    pub fn is_call_to_next(&self) -> bool {
+        self.is_call() && self.target().is_some() && self.target() == self.next
+    }
+
+    /// Whether nothing follows this: it stops the processor.
+    pub fn is_stop(&self) -> bool {
+        matches!(self.name.as_str(), "ud2" | "hlt")
+    }
+
     /// Whether this is a jump that may go on below.
     pub fn is_conditional(&self) -> bool {
         (self.name.starts_with('j') && self.name != "jmp") || self.name.starts_with("loop")

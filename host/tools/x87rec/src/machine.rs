@@ -8,10 +8,14 @@ use crate::address::{immediate, memory, width};
 use crate::control::changed;
 use crate::effects::{self, FLAGS};
 use crate::line::Code;
-use crate::names::{Part, RAX, RBP, RCX, RDX, REGISTERS, RSP, register};
+use crate::names::{Part, RAX, RBP, RCX, RDI, RDX, REGISTERS, RSI, RSP, register};
 use crate::passing::passes;
 use crate::place::{Place, Term, Version, sum};
 use crate::word::Word;
+
+/// Registers that a call may change, in 32-bit and in 64-bit code.
+const LOST_32: [usize; 3] = [RAX, RCX, RDX];
+const LOST_64: [usize; 9] = [RAX, RCX, RDX, RSI, RDI, 8, 9, 10, 11];
 
 /// What a register or a place of memory holds.
 #[derive(Debug, Clone, Copy, PartialEq, Eq)]
@@ -64,6 +68,9 @@ pub struct Machine {
     pub crossed: Option<u64>,
     pub flags: [Writer; FLAGS],
     pub status: Writer,
+    /// Whether x87 code has run since, which moves TOP and may raise
+    /// exceptions.
+    pub disturbed: bool,
 }
 
 /// What a call does to the stack pointer, and how wide that is.
@@ -93,6 +100,7 @@ impl Machine {
             crossed: None,
             flags: [Writer::Entry; FLAGS],
             status: Writer::Entry,
+            disturbed: false,
         }
     }
 
@@ -129,6 +137,7 @@ impl Machine {
             *mine = met(*mine, *other);
         }
         self.status = met(self.status, other.status);
+        self.disturbed |= other.disturbed;
     }
 
     /// The place of a memory operand, as it is now.
@@ -204,6 +213,9 @@ impl Machine {
         }
         if effects::writes_status(code) {
             self.status = Writer::At(at);
+            self.disturbed = false;
+        } else {
+            self.disturbed |= effects::disturbs_status(code);
         }
         if let Some(word) = changed(code) {
             self.load_control(word, at, None);
@@ -287,12 +299,21 @@ impl Machine {
         }
     }
 
-    /// A call keeps what the calling convention says is kept: `rbx`,
-    /// `rbp`, `rsi`, `rdi`, its caller's places of the stack and the
-    /// control word.
+    /// A call keeps what the calling convention says is kept: registers
+    /// but those that it may lose, its caller's places of the stack and
+    /// the control word.
     fn call(&mut self, code: &Code, calls: &dyn Calls) {
         let at = code.address;
-        for number in [RAX, RCX, RDX] {
+        if code.is_call_to_next() {
+            // It is no call: it pushes its own address, for a `pop`.
+            return self.push(code, calls.word());
+        }
+        let lost: &[usize] = if calls.word() == 8 {
+            &LOST_64
+        } else {
+            &LOST_32
+        };
+        for &number in lost {
             self.set(number, Value::Unknown, at);
         }
         let pointer = self.pointer();
@@ -562,7 +583,7 @@ impl Machine {
             stored.crossed = stored.crossed.or(Some(at));
             apart
         });
-        if let Some(place) = place.filter(|_| is_worth_keeping(value, bytes)) {
+        if let Some(place) = place.filter(|_| value != Value::Unknown) {
             let stored = Stored {
                 bytes,
                 value,
@@ -594,19 +615,10 @@ impl Machine {
         self.memory.clear();
         self.flags = [Writer::At(code.address); FLAGS];
         self.status = Writer::At(code.address);
+        self.disturbed = false;
         if !effects::keeps_control(code) {
             self.load_control(Word::UNKNOWN, code.address, None);
         }
-    }
-}
-
-/// Whether a stored value may matter: an address on the stack, or what may
-/// be a control word. A constant of another size is none.
-fn is_worth_keeping(value: Value, bytes: i64) -> bool {
-    match value {
-        Value::Unknown => false,
-        Value::Word(word) => word != Word::UNKNOWN && (bytes == 2 || word.is_constant().is_none()),
-        Value::Stack(..) => true,
     }
 }
 

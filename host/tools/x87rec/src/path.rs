@@ -33,8 +33,33 @@ pub enum End {
     Leaves,
     /// A jump whose target the text does not tell.
     Indirect,
+    /// An instruction stops the processor.
+    Stops,
     /// The text has no line behind the last one.
     Off,
+}
+
+impl End {
+    /// What is said of the stack that follows.
+    pub fn words(self) -> String {
+        let other = "which is no return; the stack is then";
+        match self {
+            Self::Return => "the way ends here, at the return, with this stack".to_owned(),
+            Self::Again(line) => {
+                format!("the way comes to {line:x} again and ends here, {other}")
+            }
+            Self::Leaves => {
+                "the way leaves the code that was asked for and ends here, which is no \
+                             return: what is given back is decided there; the stack is then"
+                    .to_owned()
+            }
+            Self::Indirect => {
+                format!("goes where the text does not tell, and the way ends here, {other}")
+            }
+            Self::Stops => format!("stops the processor, and the way ends here, {other}"),
+            Self::Off => format!("the text ends behind this line, {other}"),
+        }
+    }
 }
 
 /// A way and its end.
@@ -44,19 +69,16 @@ pub struct Way {
 }
 
 /// The way from the first line on, on which these conditional jumps are
-/// taken.
+/// taken. No address stands there twice.
 pub fn follow(lines: Vec<Line>, takes: &[Take]) -> Result<Way, Wrong> {
-    let mut code = BTreeMap::new();
-    let mut first = None;
-    for line in lines {
-        let Line::Code(line) = line else { continue };
-        first = first.or(Some(line.address));
-        let (number, address) = (line.line, line.address);
-        if code.insert(address, line).is_some() {
-            let why = format!("{address:x} stands there twice");
-            return Err(Wrong { line: number, why });
-        }
-    }
+    let first = lines.iter().find_map(Line::code).map(|code| code.address);
+    let code: BTreeMap<u64, Code> = lines
+        .into_iter()
+        .filter_map(|line| match line {
+            Line::Code(code) => Some((code.address, code)),
+            _ => None,
+        })
+        .collect();
     let mut walk = Walk {
         code: &code,
         takes,
@@ -65,11 +87,14 @@ pub fn follow(lines: Vec<Line>, takes: &[Take]) -> Result<Way, Wrong> {
         steps: Vec::new(),
     };
     let end = walk.from(first);
-    let missed = takes.iter().find(|take| !walk.came_to(take.address));
+    let missed = takes.iter().find(|take| !walk.decided(take.address));
     match missed {
         Some(take) => Err(Wrong {
             line: 0,
-            why: format!("the way does not come to {:x}", take.address),
+            why: format!(
+                "the way does not come to a conditional jump at {:x}",
+                take.address
+            ),
         }),
         None => Ok(Way {
             steps: walk.steps,
@@ -107,6 +132,9 @@ impl Walk<'_> {
             if code.is_return() {
                 return End::Return;
             }
+            if code.is_stop() {
+                return End::Stops;
+            }
             at = if code.name == "jmp" || taken == Some(true) {
                 match code.target() {
                     Some(target) => Some(target),
@@ -137,7 +165,9 @@ impl Walk<'_> {
         decision.unwrap_or(false)
     }
 
-    fn came_to(&self, address: u64) -> bool {
-        self.steps.iter().any(|step| step.code.address == address)
+    /// Whether there was a decision at an address.
+    fn decided(&self, address: u64) -> bool {
+        let decided = |step: &Step| step.code.address == address && step.taken.is_some();
+        self.steps.iter().any(decided)
     }
 }

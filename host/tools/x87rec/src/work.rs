@@ -12,7 +12,7 @@ use crate::line::Code;
 use crate::machine::{Calls, Machine, Writer};
 use crate::operand::Numbering;
 use crate::passing::passes;
-use crate::path::{End, Step, Way};
+use crate::path::{Step, Way};
 use crate::place::Place;
 use crate::{Options, Translated, Wrong};
 
@@ -120,8 +120,8 @@ impl<'a> Work<'a> {
 
     fn code(&mut self, code: &Code, machine: &Machine, followed: bool) -> Result<(), Wrong> {
         self.done.lines += 1;
-        let jumps = code.name.starts_with('j') && !code.is_indirect() || code.is_conditional();
-        let goes_on = followed && (jumps || code.is_return());
+        let jumps = code.name.starts_with('j') || code.is_conditional();
+        let goes_on = followed && (jumps || code.is_return() || code.is_stop());
         let control = CONTROL.contains(&code.name.as_str()) && !self.options.assume_reset;
         let passes = goes_on || control || passes(&code.name, &code.operands);
         if code.name == "fldcw" && control {
@@ -206,7 +206,10 @@ impl<'a> Work<'a> {
             }
         }
         if reads_status(&code.name) {
-            let words = self.written(machine.status, &STATUS_COMPARES);
+            let mut words = self.written(machine.status, &STATUS_COMPARES);
+            if machine.disturbed {
+                words += ", TOP and exception bits aside";
+            }
             all.push(("fsw".to_owned(), words));
         }
         all
@@ -269,21 +272,7 @@ impl<'a> Work<'a> {
         let Some(last) = way.steps.last() else {
             return;
         };
-        let words = match way.end {
-            End::Return => "the way ends here, at the return, with this stack".to_owned(),
-            End::Again(line) => format!(
-                "the way comes to {line:x} again and ends here, which is no return; the stack is then"
-            ),
-            End::Leaves => "the way leaves the code that was asked for and ends here, which is no \
-                            return: what is given back is decided there; the stack is then"
-                .to_owned(),
-            End::Indirect => "goes where the text does not tell, and the way ends here, which is \
-                              no return; the stack is then"
-                .to_owned(),
-            End::Off => {
-                "the text ends behind this line, which is no return; the stack is then".to_owned()
-            }
-        };
+        let words = way.end.words();
         self.stack(&last.code, &words);
     }
 
@@ -351,9 +340,14 @@ impl<'a> Work<'a> {
         }
         if self.called {
             head.push(
-                "calls are taken to keep what the calling convention keeps: the control word, \
-                 rbx, rbp, rsi, rdi, and their caller's places on the stack"
-                    .to_owned(),
+                "calls are taken to keep what the calling convention keeps: the control word, their \
+                 caller's places on the stack, and "
+                    .to_owned()
+                    + if pointer == "rsp" {
+                        "rbx, rbp, r12 to r15"
+                    } else {
+                        "ebx, ebp, esi, edi"
+                    },
             );
         }
         self.done.notes = Notes {

@@ -178,6 +178,16 @@ fn precision_counts_for_what_computes() {
 }
 
 #[test]
+fn a_constant_word_can_be_pushed() {
+    let told = way(&[
+        "push 0xf7f",
+        "fldcw WORD PTR [esp]",
+        "fistp DWORD PTR [ecx]",
+    ]);
+    assert_eq!(named(&told), ["fisttp"]);
+}
+
+#[test]
 fn a_stored_word_that_may_have_changed_is_not_taken() {
     let saved = |between: &'static [&'static str]| {
         let mut lines = vec!["sub esp,0xc", "fnstcw WORD PTR [esp+0x6]"];

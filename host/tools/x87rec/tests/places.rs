@@ -92,6 +92,12 @@ fn a_call_that_took_nothing_is_known_by_the_return() {
 }
 
 #[test]
+fn a_call_to_the_next_line_pushes() {
+    let lines = "0 call 5\n5 pop ebx\n6 fld DWORD PTR [esp+0x4]\n8 fld DWORD PTR [ebx]\na ret\n";
+    assert_eq!(places(&with(lines, &path(&[]))), ["[esp0+0x4]", "[ebx]"]);
+}
+
+#[test]
 fn a_call_into_the_text_takes_what_its_returns_say() {
     let lines = "0 push eax\n2 call 20\n4 fld DWORD PTR [esp]\n6 jmp eax\n20 nop\n22 ret 0x4\n";
     assert_eq!(places(&with(lines, &path(&[]))), ["[esp0]"]);

@@ -19,11 +19,14 @@ fn one_way_can_be_followed() {
     assert_eq!(named_on(&[]), ["fld1", "fchs", "fstp"]);
     assert_eq!(named_on(&[2]), ["fld1", "fabs", "fstp"]);
     let why = translate(text, &path(&[4, 8])).expect_err("it is not on the way");
-    assert_eq!(why.to_string(), "the way does not come to 8");
+    let expected = "the way does not come to a conditional jump at 4";
+    assert_eq!(why.to_string(), expected);
     let returned = with("8 fld1\na ret\n0 fchs\n", &path(&[]));
     assert_eq!(named(&returned), ["fld1"]);
     let twice = translate("8 fld1\n8 fchs\n", &path(&[])).expect_err("it is wrong");
-    assert_eq!(twice.to_string(), "line 2: 8 stands there twice");
+    let expected = "line 2: 8 stands there twice: take one function (--function)";
+    assert_eq!(twice.to_string(), expected);
+    assert!(translate("8 fld1\n8 fchs\n", &Options::default()).is_err());
 }
 
 #[test]
@@ -45,6 +48,8 @@ fn the_end_of_a_way_is_told() {
         indirect.starts_with("2 notrack jmp eax: goes where the text"),
         "{indirect}"
     );
+    let stops = end("0 fld1\n2 ud2\n4 fchs\n", &[]);
+    assert!(stops.starts_with("2 ud2: stops the processor"), "{stops}");
     let off = end("0 fld1\n2 nop\n", &[]);
     assert!(
         off.starts_with("2 nop: the text ends behind this line"),
@@ -120,8 +125,16 @@ fn the_writer_of_the_status_word_is_told() {
         reads(&with(&text, &path(&[])))
     };
     let compare = "4 fsw as fcom at 0 wrote it";
-    for between in ["fstp st(0)", "cmp eax,ecx", "fcomi st,st(1)"] {
-        assert_eq!(told(between), [compare], "{between}");
+    for between in [
+        "fnstcw WORD PTR [eax]",
+        "cmp eax,ecx",
+        "fnstsw WORD PTR [eax]",
+    ] {
+        assert_eq!(told(between).pop().as_deref(), Some(compare), "{between}");
+    }
+    let aside = format!("{compare}, TOP and exception bits aside");
+    for between in ["fstp st(0)", "fcomi st,st(1)", "fld1", "fadd st,st(1)"] {
+        assert_eq!(told(between), [aside.clone()], "{between}");
     }
     assert_eq!(told("fprem"), ["4 fsw as fprem at 2 left it: not modelled"]);
     assert_eq!(told("ftst"), ["4 fsw as ftst at 2 left it: not modelled"]);
