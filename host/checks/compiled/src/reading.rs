@@ -165,7 +165,7 @@ impl<'a> Reading<'a> {
     }
 
     fn words(&mut self, words: &str) -> Told {
-        if words.ends_with("the stack is forgotten here") {
+        if words.contains(": the stack is forgotten here") {
             self.forgotten = true;
             self.tell(ENOUGH);
         }
@@ -351,7 +351,7 @@ impl<'a> Reading<'a> {
         }
         let behind = self.behind_last(address)?;
         let all = how == "wrote it";
-        if all || how == "wrote it, TOP and exception bits aside" {
+        if all || how == "wrote it, C1, TOP and exceptions aside" {
             let written = self.written.get(what).filter(|(by, _)| *by == address);
             let (_, value) = written.ok_or("the text does not say what it wrote")?;
             if all {

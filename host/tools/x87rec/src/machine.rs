@@ -36,6 +36,15 @@ pub enum Writer {
     Several,
 }
 
+/// What makes the control word another than that of the entry.
+#[derive(Debug, Clone, Copy, PartialEq, Eq)]
+pub enum Change {
+    /// An instruction that changed it, or may have.
+    At(u64),
+    /// Ways that meet here with different words.
+    Meeting(u64),
+}
+
 #[derive(Debug, Clone, Copy, PartialEq, Eq)]
 struct Register {
     value: Value,
@@ -62,10 +71,8 @@ pub struct Machine {
     /// may go there.
     escaped: bool,
     pub control: Word,
-    /// Where the control word was last changed.
-    pub changed: Option<u64>,
-    /// What the word that `fldcw` loaded was taken to survive.
-    pub crossed: Option<u64>,
+    /// Where the control word was last changed, or may have been.
+    pub changed: Option<Change>,
     pub flags: [Writer; FLAGS],
     pub status: Writer,
     /// Whether x87 code has run since, which moves TOP and may raise
@@ -97,7 +104,6 @@ impl Machine {
             escaped: false,
             control: Word::ENTRY,
             changed: None,
-            crossed: None,
             flags: [Writer::Entry; FLAGS],
             status: Writer::Entry,
             disturbed: false,
@@ -125,14 +131,14 @@ impl Machine {
         }
         self.memory.retain(|place, stored| {
             let same = other.memory.get(place);
+            stored.crossed = stored.crossed.or(same.and_then(|same| same.crossed));
             same.is_some_and(|same| (same.bytes, same.value) == (stored.bytes, stored.value))
         });
         self.escaped |= other.escaped;
         if self.control != other.control {
             self.control = self.control.meet(other.control);
-            self.changed = Some(address);
+            self.changed = Some(Change::Meeting(address));
         }
-        self.crossed = self.crossed.or(other.crossed);
         for (mine, other) in self.flags.iter_mut().zip(&other.flags) {
             *mine = met(*mine, *other);
         }
@@ -155,7 +161,7 @@ impl Machine {
             match value {
                 Value::Stack(base, offset) if scale == 1 && place.stack.is_none() => {
                     place.stack = Some(base);
-                    place.offset += offset;
+                    place.offset = place.offset.wrapping_add(offset);
                 }
                 _ => place.terms.push(Term {
                     name,
@@ -180,7 +186,7 @@ impl Machine {
         if code.name == "push" {
             let bytes = entry_bytes(code, calls);
             let below = |top: Place| Place {
-                offset: top.offset - bytes,
+                offset: top.offset.wrapping_sub(bytes),
                 ..top
             };
             return self
@@ -206,9 +212,14 @@ impl Machine {
     /// What is known behind an instruction.
     pub fn step(&mut self, code: &Code, calls: &dyn Calls) {
         let at = code.address;
-        for (flag, writer) in effects::flags(code).into_iter().zip(&mut self.flags) {
-            if flag {
-                *writer = Writer::At(at);
+        let writer = if effects::may_leave_flags(code) {
+            Writer::Several
+        } else {
+            Writer::At(at)
+        };
+        for (written, flag) in effects::flags(code).into_iter().zip(&mut self.flags) {
+            if written {
+                *flag = writer;
             }
         }
         if effects::writes_status(code) {
@@ -218,30 +229,27 @@ impl Machine {
             self.disturbed |= effects::disturbs_status(code);
         }
         if let Some(word) = changed(code) {
-            self.load_control(word, at, None);
+            self.load_control(word, at);
         }
         match code.name.as_str() {
             "push" => self.push(code, entry_bytes(code, calls)),
             "pop" => self.pop(code, entry_bytes(code, calls)),
             "call" => self.call(code, calls),
-            "leave" => {
-                self.registers[RSP].value = self.registers[RBP].value;
-                self.settle(at);
-                self.take(RBP, at, calls.word());
-            }
+            "leave" => self.leave(at, calls.word()),
             "mov" | "movzx" | "lea" => self.moves(code),
             "add" | "sub" | "or" | "and" | "xor" => self.computes(code),
             name if effects::is_x87(name) => self.x87(code),
-            name if passes(name, &code.operands) => self.writes(code),
+            name if passes(name, &code.operands) || effects::keeps_control(code) => {
+                self.writes(code);
+            }
             _ if code.is_return() || code.name.starts_with('j') => {}
             _ => self.anything(code),
         }
     }
 
-    fn load_control(&mut self, word: Word, at: u64, crossed: Option<u64>) {
+    fn load_control(&mut self, word: Word, at: u64) {
         self.control = word;
-        self.changed = Some(at);
-        self.crossed = crossed;
+        self.changed = Some(Change::At(at));
     }
 
     fn push(&mut self, code: &Code, bytes: i64) {
@@ -252,14 +260,27 @@ impl Machine {
         self.write(top, bytes, value, code.address);
     }
 
+    /// An address that is counted from the stack pointer is that behind
+    /// the pop.
     fn pop(&mut self, code: &Code, bytes: i64) {
-        match code.operands.first().and_then(|text| register(text)) {
+        let operand = code.operands.first().map(|text| text.to_ascii_lowercase());
+        match operand.and_then(|text| register(&text)) {
             Some((number, Part::Whole)) => self.take(number, code.address, bytes),
             _ => {
-                self.writes(code);
                 self.move_pointer(bytes, code.address);
+                self.writes(code);
             }
         }
+    }
+
+    fn leave(&mut self, at: u64, bytes: i64) {
+        let frame = self.registers[RBP].value;
+        if let Value::Stack(..) = frame {
+            self.registers[RSP].value = frame;
+            return self.take(RBP, at, bytes);
+        }
+        self.set(RSP, Value::Unknown, at);
+        self.set(RBP, Value::Unknown, at);
     }
 
     /// Take the top of the stack into a register.
@@ -286,7 +307,7 @@ impl Machine {
 
     fn move_pointer(&mut self, bytes: i64, at: u64) {
         if let Value::Stack(base, offset) = self.pointer() {
-            self.registers[RSP].value = Value::Stack(base, offset + bytes);
+            self.registers[RSP].value = Value::Stack(base, offset.wrapping_add(bytes));
         }
         self.settle(at);
     }
@@ -336,31 +357,26 @@ impl Machine {
     }
 
     fn x87(&mut self, code: &Code) {
-        let Some(text) = code.operands.first() else {
-            return;
-        };
-        if code.name.ends_with("stsw") && register(text).is_some() {
-            self.set(RAX, Value::Unknown, code.address);
+        let operand = code.operands.first().map(|text| text.to_ascii_lowercase());
+        if operand
+            .as_deref()
+            .is_some_and(|text| register(text).is_some())
+        {
+            // `fnstsw ax` writes the one register that x87 code does.
+            return self.set(RAX, Value::Unknown, code.address);
         }
-        let Some(text) = memory(text) else { return };
-        let place = self.place(&text, code);
+        let text = operand.as_deref().and_then(memory);
+        let place = text.as_ref().and_then(|text| self.place(text, code));
         if code.name == "fldcw" {
-            let stored = place.and_then(|place| self.memory.get(&place).copied());
-            let (word, crossed) = match stored {
-                Some(Stored {
-                    value: Value::Word(word),
-                    bytes,
-                    crossed,
-                }) if bytes >= 2 => (word, crossed),
-                _ => (Word::UNKNOWN, None),
-            };
-            self.load_control(word, code.address, crossed);
-        } else if effects::stores(code) {
+            let value = place.map_or(Value::Unknown, |place| self.read(&place, 2));
+            self.load_control(word_of(value), code.address);
+        } else if effects::stores(code) && operand.is_some_and(|text| !text.starts_with("st")) {
             let value = match code.name.as_str() {
                 "fnstcw" | "fstcw" => Value::Word(self.control),
                 _ => Value::Unknown,
             };
-            self.write(place, bytes(&text), value, code.address);
+            let bytes = text.map_or(0, |text| bytes(&text));
+            self.write(place, bytes, value, code.address);
         }
     }
 
@@ -368,6 +384,7 @@ impl Machine {
     fn moves(&mut self, code: &Code) {
         let value = match (code.name.as_str(), code.operands.get(1)) {
             ("lea", Some(text)) => self.effective(text, code),
+            ("movzx", _) => half(self.operand(code, 1)),
             _ => self.operand(code, 1),
         };
         let to_frame = matches!(
@@ -380,7 +397,8 @@ impl Machine {
 
     /// The address that `lea` gives.
     fn effective(&self, text: &str, code: &Code) -> Value {
-        let place = memory(text).and_then(|text| self.place(&text, code));
+        let text = memory(text).map(|text| text.replace("+eiz*1", "").replace("+riz*1", ""));
+        let place = text.and_then(|text| self.place(&text, code));
         match place {
             Some(place) if place.is_on_stack() => {
                 let base = place.stack.expect("it is on the stack");
@@ -397,7 +415,7 @@ impl Machine {
             return self.put(code, 0, Value::Word(Word::constant(0)));
         }
         let constant = code.operands.get(1).and_then(|text| immediate(text));
-        let Some(constant) = constant else {
+        let Some(constant) = constant.filter(|_| code.relocation.is_none()) else {
             return self.put(code, 0, Value::Unknown);
         };
         let signed = constant.cast_signed();
@@ -409,9 +427,14 @@ impl Machine {
         };
         let old = self.whole(code);
         let word = word_of(old);
+        let all = code.operands.first().is_some_and(|text| is_whole(text));
         let value = match (code.name.as_str(), old) {
-            ("add", Value::Stack(base, offset)) => Value::Stack(base, offset + low(signed)),
-            ("sub", Value::Stack(base, offset)) => Value::Stack(base, offset - low(signed)),
+            ("add", Value::Stack(base, offset)) if all => {
+                Value::Stack(base, offset.wrapping_add(low(signed)))
+            }
+            ("sub", Value::Stack(base, offset)) if all => {
+                Value::Stack(base, offset.wrapping_sub(low(signed)))
+            }
             ("or", _) => Value::Word(word.or(bits)),
             ("and", _) => Value::Word(word.and(bits | !mask)),
             ("xor", _) => Value::Word(word.xor(bits)),
@@ -442,7 +465,7 @@ impl Machine {
         let text = memory(code.operands.first()?)?;
         let place = self.place(&text, code)?;
         let below = Place {
-            offset: place.offset - 1,
+            offset: place.offset.wrapping_sub(1),
             ..place.clone()
         };
         let is_word = |place: &Place| {
@@ -494,11 +517,12 @@ impl Machine {
         };
         let lower = text.to_ascii_lowercase();
         match register(&lower) {
-            Some((number, Part::Whole | Part::Word)) => return self.registers[number].value,
+            Some((number, Part::Whole)) => return self.registers[number].value,
+            Some((number, Part::Word)) => return half(self.registers[number].value),
             Some(_) => return Value::Unknown,
             None => {}
         }
-        if let Some(constant) = immediate(&lower) {
+        if let Some(constant) = immediate(&lower).filter(|_| code.relocation.is_none()) {
             let bits = u16::try_from(constant & 0xffff).expect("16 bits");
             return Value::Word(Word::constant(bits));
         }
@@ -509,15 +533,18 @@ impl Machine {
         place.map_or(Value::Unknown, |place| self.read(&place, bytes(&text)))
     }
 
+    /// What is read of a place: an address whole, of a word its two lower
+    /// bytes.
     fn read(&self, place: &Place, bytes: i64) -> Value {
         match self.memory.get(place) {
-            Some(stored) if stored.bytes >= bytes => stored.value,
-            Some(Stored {
-                value: Value::Word(word),
-                bytes: 2..,
-                ..
-            }) if bytes >= 2 => Value::Word(*word),
-            _ => Value::Unknown,
+            Some(stored) => match stored.value {
+                Value::Word(word) if bytes >= 2 && stored.bytes >= 2 => {
+                    Value::Word(word.across(stored.crossed))
+                }
+                Value::Stack(..) if bytes == stored.bytes && bytes >= 4 => stored.value,
+                _ => Value::Unknown,
+            },
+            None => Value::Unknown,
         }
     }
 
@@ -576,8 +603,8 @@ impl Machine {
                 return old.is_on_stack() && !escaped;
             };
             if place.is_beside(old) {
-                return old.offset + stored.bytes <= place.offset
-                    || place.offset + bytes <= old.offset;
+                return old.offset.saturating_add(stored.bytes) <= place.offset
+                    || place.offset.saturating_add(bytes) <= old.offset;
             }
             let apart = place.stack.is_some() != old.stack.is_some() && !escaped;
             stored.crossed = stored.crossed.or(Some(at));
@@ -598,6 +625,9 @@ impl Machine {
         for number in effects::operands(code) {
             self.put(code, number, Value::Unknown);
         }
+        if effects::writes_counted_bit(code) {
+            self.write_bit(code);
+        }
         for number in effects::registers(code) {
             self.set(number, Value::Unknown, code.address);
         }
@@ -606,8 +636,23 @@ impl Machine {
         }
     }
 
-    /// An instruction of which nothing is known; one with vector registers
-    /// still leaves the control word alone.
+    /// A bit that a register counts is at a place with an index.
+    fn write_bit(&mut self, code: &Code) {
+        let Some(text) = code.operands.first().and_then(|text| memory(text)) else {
+            return;
+        };
+        let mut place = self.place(&text, code);
+        if let Some(place) = &mut place {
+            place.terms.push(Term {
+                name: code.operands[1].clone(),
+                version: Version::Behind(code.address, self.visit),
+                scale: 1,
+            });
+        }
+        self.write(place, bytes(&text), Value::Unknown, code.address);
+    }
+
+    /// An instruction of which nothing is known.
     fn anything(&mut self, code: &Code) {
         for number in 0..REGISTERS {
             self.set(number, Value::Unknown, code.address);
@@ -616,9 +661,15 @@ impl Machine {
         self.flags = [Writer::At(code.address); FLAGS];
         self.status = Writer::At(code.address);
         self.disturbed = false;
-        if !effects::keeps_control(code) {
-            self.load_control(Word::UNKNOWN, code.address, None);
-        }
+        self.load_control(Word::UNKNOWN, code.address);
+    }
+}
+
+/// The lower half of a value.
+fn half(value: Value) -> Value {
+    match value {
+        Value::Word(word) => Value::Word(word),
+        _ => Value::Unknown,
     }
 }
 
@@ -634,6 +685,11 @@ fn met(mine: Writer, other: Writer) -> Writer {
     if mine == other { mine } else { Writer::Several }
 }
 
+/// Whether an operand is all of a register.
+fn is_whole(text: &str) -> bool {
+    matches!(register(&text.to_ascii_lowercase()), Some((_, Part::Whole)))
+}
+
 /// The bytes that a push or a pop moves the stack pointer by.
 fn entry_bytes(code: &Code, calls: &dyn Calls) -> i64 {
     let operand = code.operands.first().map(|text| text.to_ascii_lowercase());
@@ -643,10 +699,10 @@ fn entry_bytes(code: &Code, calls: &dyn Calls) -> i64 {
 }
 
 /// The bytes of a memory operand; where its size does not stand there, as
-/// many as any has.
+/// many as `fxsave` writes.
 fn bytes(text: &str) -> i64 {
     match width(text) {
-        0 => 108,
+        0 => 512,
         bits => i64::from(bits) / 8,
     }
 }

@@ -1,9 +1,10 @@
 //! One way through the code.
 
 use std::collections::{BTreeMap, BTreeSet, HashMap};
+use std::ops::Bound::{Excluded, Unbounded};
 
 use crate::Wrong;
-use crate::line::{Code, Line};
+use crate::line::{Before, Code, Line};
 
 /// A conditional jump that is taken on the way.
 #[derive(Debug, Clone, PartialEq, Eq)]
@@ -87,20 +88,11 @@ pub fn follow(lines: Vec<Line>, takes: &[Take]) -> Result<Way, Wrong> {
         steps: Vec::new(),
     };
     let end = walk.from(first);
-    let missed = takes.iter().find(|take| !walk.decided(take.address));
-    match missed {
-        Some(take) => Err(Wrong {
-            line: 0,
-            why: format!(
-                "the way does not come to a conditional jump at {:x}",
-                take.address
-            ),
-        }),
-        None => Ok(Way {
-            steps: walk.steps,
-            end,
-        }),
-    }
+    walk.all_used()?;
+    Ok(Way {
+        steps: walk.steps,
+        end,
+    })
 }
 
 struct Walk<'a> {
@@ -142,9 +134,15 @@ impl Walk<'_> {
                     None => return End::Leaves,
                 }
             } else {
-                self.code.range(address + 1..).next().map(|(&next, _)| next)
+                self.below(address)
             };
         }
+    }
+
+    /// The line below, unless something was left out between.
+    fn below(&self, address: u64) -> Option<u64> {
+        let (&next, code) = self.code.range((Excluded(address), Unbounded)).next()?;
+        (code.before != Before::Break).then_some(next)
     }
 
     /// Whether a jump is taken this time. A decision that is listed lets
@@ -165,9 +163,28 @@ impl Walk<'_> {
         decision.unwrap_or(false)
     }
 
-    /// Whether there was a decision at an address.
-    fn decided(&self, address: u64) -> bool {
-        let decided = |step: &Step| step.code.address == address && step.taken.is_some();
-        self.steps.iter().any(decided)
+    /// Whether the way came to each jump that is listed, as often as there
+    /// are decisions.
+    fn all_used(&self) -> Result<(), Wrong> {
+        for (at, take) in self.takes.iter().enumerate() {
+            let address = take.address;
+            let came = |step: &&Step| step.code.address == address && step.taken.is_some();
+            let times = self.steps.iter().filter(came).count();
+            let wanted = take.decisions.as_ref().map_or(1, Vec::len);
+            let why = if self.takes[..at]
+                .iter()
+                .any(|other| other.address == address)
+            {
+                format!("{address:x} is listed twice")
+            } else if times == 0 {
+                format!("the way does not come to a conditional jump at {address:x}")
+            } else if times < wanted {
+                format!("{wanted} decisions at {address:x}, and the way comes there {times} times")
+            } else {
+                continue;
+            };
+            return Err(Wrong { line: 0, why });
+        }
+        Ok(())
     }
 }

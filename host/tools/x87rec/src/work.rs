@@ -8,8 +8,8 @@ use sleetgate::{Instruction, Operand, Place as Numbers, write_record};
 use crate::control::{Verdict, loaded, verdict};
 use crate::effects::{FLAG_COMPARES, FLAG_NAMES, is_x87, reads, reads_status, stores};
 use crate::flow::Callees;
-use crate::line::Code;
-use crate::machine::{Calls, Machine, Writer};
+use crate::line::{Before, Code};
+use crate::machine::{Calls, Change, Machine, Writer};
 use crate::operand::Numbering;
 use crate::passing::passes;
 use crate::path::{Step, Way};
@@ -110,6 +110,9 @@ impl<'a> Work<'a> {
     /// A line of a way.
     pub fn step(&mut self, step: &Step, machine: &Machine) -> Result<(), Wrong> {
         let code = &step.code;
+        if let Before::Symbol(name) = &code.before {
+            self.event(code.address, What::Begin(name.clone()));
+        }
         match step.taken {
             Some(true) => self.remark(code, "taken"),
             Some(false) => self.remark(code, "not taken"),
@@ -141,14 +144,14 @@ impl<'a> Work<'a> {
         let overlaps = |(place, bytes): &&(Place, i64)| {
             written.iter().any(|(other, more)| {
                 place.is_beside(other)
-                    && place.offset < other.offset + more
-                    && other.offset < place.offset + bytes
+                    && place.offset < other.offset.saturating_add(*more)
+                    && other.offset < place.offset.saturating_add(*bytes)
             })
         };
         let pointer = self.pointer();
         let named = self.used.iter().filter(overlaps);
         let mut places: Vec<String> = named
-            .map(|(place, _)| place.text(pointer, !place.is_on_stack()))
+            .map(|(place, _)| place.text(pointer, |_| true))
             .collect();
         places.dedup();
         if !places.is_empty() {
@@ -165,7 +168,7 @@ impl<'a> Work<'a> {
             .flatten();
         let mut why = None;
         if !self.options.assume_reset {
-            match verdict(code, machine.control, machine.changed) {
+            match verdict(code, machine.control, &self.since(machine.changed)) {
                 Verdict::AsIs => {}
                 Verdict::Truncates(name) => {
                     let words = format!("rounds toward zero here, and is lifted as {name}");
@@ -195,6 +198,23 @@ impl<'a> Work<'a> {
         Ok(())
     }
 
+    /// Since when the control word may be another than that of the entry.
+    fn since(&self, change: Option<Change>) -> String {
+        match change {
+            None => String::new(),
+            Some(Change::Meeting(line)) => {
+                format!(", since the control word differs by the way to {line:x}")
+            }
+            Some(Change::At(address)) => match self.names.get(&address) {
+                Some(&"fldcw") => format!(", since fldcw at {address:x} loaded the control word"),
+                Some(name) => {
+                    format!(", since {name} at {address:x} may have changed the control word")
+                }
+                None => String::new(),
+            },
+        }
+    }
+
     /// Who wrote what an instruction reads.
     fn reads(&self, code: &Code, machine: &Machine) -> Vec<(String, String)> {
         let mut all = Vec::new();
@@ -208,7 +228,7 @@ impl<'a> Work<'a> {
         if reads_status(&code.name) {
             let mut words = self.written(machine.status, &STATUS_COMPARES);
             if machine.disturbed {
-                words += ", TOP and exception bits aside";
+                words += ", C1, TOP and exceptions aside";
             }
             all.push(("fsw".to_owned(), words));
         }
@@ -240,8 +260,8 @@ impl<'a> Work<'a> {
         let mut behind = machine.clone();
         behind.step(code, self.callees);
         let mut words = loaded(behind.control);
-        if let Some(crossed) = behind.crossed {
-            words += &format!(", if {crossed:x} did not write where that word is kept");
+        if let Some(crossed) = behind.control.crossed {
+            words += &format!(", if no store from {crossed:x} on went where that word was kept");
         }
         self.remark(code, &words);
     }

@@ -213,3 +213,116 @@ fn where_a_declined_store_goes_is_told() {
     assert_eq!(writes, [Some(1), Some(0)]);
     assert_eq!(told.notes.addresses, ["[esp0+0x4]"]);
 }
+
+#[test]
+fn a_part_of_a_stack_address_is_none() {
+    for line in ["movzx ebx,sp", "mov bx,sp", "mov ebx,DWORD PTR [esp]"] {
+        let lines = ["push ax", line, "fld DWORD PTR [ebx]"];
+        assert_eq!(on_way(&lines), ["[ebx]"], "{line}");
+    }
+    let added = ["lea eax,[esp+0x8]", "add ah,0x4", "fld DWORD PTR [eax]"];
+    assert_eq!(on_way(&added), ["[eax]"]);
+}
+
+#[test]
+fn the_stack_pointer_behind_leave_and_pop_is_counted_from_there() {
+    let leave = [
+        "mov ebp,DWORD PTR [esp+0x4]",
+        "leave",
+        "fld DWORD PTR [esp]",
+    ];
+    assert_eq!(on_way(&leave), ["[esp@10]"]);
+    assert_eq!(on_way(&["pop sp", "fld DWORD PTR [esp]"]), ["[esp@0]"]);
+    let string = "movsd dword ptr es:[edi], dword ptr [esi]";
+    let moved = ["fld DWORD PTR [edi]", string, "fld DWORD PTR [edi]"];
+    assert_eq!(on_way(&moved), ["[edi]", "[edi@10]"]);
+}
+
+#[test]
+fn huge_constants_wrap() {
+    let add = "add esp,0x7fffffffffffffff";
+    assert_eq!(on_way(&[add, add, "fld DWORD PTR [esp+0x2]"]), ["[esp0]"]);
+    let far = [
+        "fnstcw WORD PTR [esp+0x7fffffffffffffff]",
+        "fnstcw WORD PTR [esp]",
+        "fld1",
+    ];
+    assert_eq!(on_way(&far), Vec::<String>::new());
+}
+
+#[test]
+fn a_frame_tells_nothing_of_its_calls() {
+    let lines = [
+        "push ebp",
+        "mov ebp,esp",
+        "sub esp,0x10",
+        "push 0x1",
+        "call 900",
+        "fld QWORD PTR [esp]",
+        "fld QWORD PTR [ebp-0x8]",
+        "leave",
+        "ret",
+    ];
+    assert_eq!(on_way(&lines), ["[esp@40]", "[esp0-0xc]"]);
+    assert_eq!(places(&records(&text(&lines))), ["[esp@40]", "[esp0-0xc]"]);
+}
+
+#[test]
+fn one_value_of_a_register_is_not_taken_for_another() {
+    let lines = [
+        "fld QWORD PTR [eax]",
+        "mov eax,ebx",
+        "fadd QWORD PTR [eax+0x8]",
+    ];
+    assert_eq!(on_way(&lines), ["[eax]", "[eax@10+0x8]"]);
+}
+
+#[test]
+fn addresses_with_registers_may_not_be_linked_either() {
+    let lines = [
+        "fld QWORD PTR [eax*8+0x0]",
+        "fadd QWORD PTR [eax*8+0x0]",
+        "fadd QWORD PTR [ebx+0x0]",
+        "fadd QWORD PTR [ebp+0x0]",
+    ];
+    let expected = [
+        "[unlinked of 0+eax*8]",
+        "[unlinked of 10+eax*8]",
+        "[unlinked of 20+ebx]",
+        "[ebp]",
+    ];
+    assert_eq!(on_way(&lines), expected);
+    let long = "0 fld QWORD PTR [rip+0x0]        # 6 <f+0x6>\n6 ret\n";
+    assert_eq!(places(&records(long)), ["[unlinked of 0+0x6]"]);
+}
+
+#[test]
+fn a_jump_through_a_table_goes_where_the_text_does_not_tell() {
+    let text = "00000000 <f>:\n0 sub esp,0x1c\n3 jmp DWORD PTR [eax*4+0x0]\n5: R_386_32 .rodata\n\
+                9 fadd QWORD PTR [esp+0x20]\nd ret\n";
+    let words = remarks(&with(text, &path(&[])));
+    assert!(
+        words[0].starts_with("3 jmp DWORD PTR [eax*4+0x0]: goes where the text"),
+        "{words:?}"
+    );
+    let told = records(text);
+    assert_eq!(places(&told).pop().as_deref(), Some("[esp0+0x4]"));
+}
+
+#[test]
+fn a_way_does_not_cross_what_was_left_out() {
+    let text = "00000000 <f>:\n0 fld1\n2 call 40 <abort>\n\t...\n00000010 <g>:\n10 fldz\n12 ret\n";
+    let words = remarks(&with(text, &path(&[])));
+    assert!(
+        words[1].starts_with("2 call 40 <abort>: the text ends behind"),
+        "{words:?}"
+    );
+}
+
+#[test]
+fn the_last_address_has_none_behind_it() {
+    for options in [path(&[]), x87rec::Options::default()] {
+        let told = with("ffffffffffffffff fld1\n", &options);
+        assert_eq!(told.lines, 1);
+    }
+}

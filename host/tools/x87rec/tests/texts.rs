@@ -200,6 +200,8 @@ fn relocations_name_their_symbols() {
                 2: R_X86_64_PC32 x-0x4\n6 fld QWORD PTR [rip+0x0]\n\
                 8: R_X86_64_PC32 y+0x4\nc ret\n";
     assert_eq!(places(&records(long)), ["[x]", "[y+0x8]"]);
+    let coff = "0 fld QWORD PTR ds:0x0\n2: dir32 _x\n6 call b\n7: DISP32 _g\nb ret\n";
+    assert_eq!(places(&records(coff)), ["[_x]"]);
     assert_eq!(wrong("2: R_386_32 a\n").line, 1);
 }
 
@@ -243,6 +245,7 @@ fn what_is_not_known_to_pass_is_a_record() {
     for line in [
         "emms",
         "movq mm0,QWORD PTR [eax]",
+        "PXOR MM0,MM0",
         "call 10",
         "jmp 10",
         "(bad)",

@@ -77,6 +77,23 @@ fn a_loop_can_be_gone_through_so_many_times() {
     let words = remarks(&twice);
     let expected = ["8 jne 2: taken", "8 jne 2: taken", "8 jne 2: not taken"];
     assert_eq!(words[..3], expected);
+    let why = |takes: &[Take]| {
+        let options = Options {
+            path: Some(takes.to_vec()),
+            ..Options::default()
+        };
+        translate(LOOP, &options)
+            .map(|_| ())
+            .expect_err("it is wrong")
+            .to_string()
+    };
+    let take = |decisions: &[bool]| Take {
+        address: 8,
+        decisions: Some(decisions.to_vec()),
+    };
+    let many = "3 decisions at 8, and the way comes there 2 times";
+    assert_eq!(why(&[take(&[true, false, true])]), many);
+    assert_eq!(why(&[take(&[true]), take(&[true])]), "8 is listed twice");
     // When the decisions are used up, a jump is not taken.
     assert_eq!(named(&with(LOOP, &options(&[true]))).len(), 3);
     let round = "0 fld1\n2 je 8\n4 jmp 0\n8 ret\n";
@@ -105,13 +122,21 @@ fn the_writer_of_a_flag_is_told() {
     assert_eq!(moves("jne 4"), all(compare, compare, compare));
     assert_eq!(moves("fld1"), all(compare, compare, compare));
     let integer = |name: &str| format!("{name} at 2 wrote it: integer code");
-    for name in ["cmp", "add", "sahf", "test", "shl", "imul", "ucomiss"] {
+    for name in ["cmp", "add", "sahf", "test", "imul"] {
         let who = integer(name);
         assert_eq!(moves(&format!("{name} eax,ecx")), all(&who, &who, &who));
     }
     let inc = integer("inc");
     assert_eq!(moves("inc eax"), all(compare, &inc, &inc));
     assert_eq!(moves("stc"), all(&integer("stc"), compare, compare));
+    let bt = integer("bt");
+    assert_eq!(moves("bt eax,0x1"), all(&bt, compare, &bt));
+    let vector = integer("ucomiss");
+    assert_eq!(moves("ucomiss xmm0,xmm1"), all(&vector, &vector, &vector));
+    assert_eq!(moves("unpcklps xmm0,xmm1"), all(compare, compare, compare));
+    let shift = integer("shl");
+    assert_eq!(moves("shl eax,0x1"), all(&shift, &shift, &shift));
+    assert!(moves("shl eax,cl")[0].ends_with("which the text does not know"));
     let call = "call at 2 left it: not modelled";
     assert_eq!(moves("call 40"), all(call, call, call));
     let entry = "4 CF as it was on entry";
@@ -132,7 +157,7 @@ fn the_writer_of_the_status_word_is_told() {
     ] {
         assert_eq!(told(between).pop().as_deref(), Some(compare), "{between}");
     }
-    let aside = format!("{compare}, TOP and exception bits aside");
+    let aside = format!("{compare}, C1, TOP and exceptions aside");
     for between in ["fstp st(0)", "fcomi st,st(1)", "fld1", "fadd st,st(1)"] {
         assert_eq!(told(between), [aside.clone()], "{between}");
     }
