@@ -277,15 +277,9 @@ fn whole(
     let code = lines.iter().filter_map(Line::code);
     let code = code.map(|code| (code, &machines[&code.address]));
     let mut work = Work::new(options, callees, code);
-    for line in lines {
-        match line {
-            Line::Break => work.broken(None),
-            Line::Symbol(name) => work.broken(Some(name)),
-            Line::Code(code) => {
-                let entered = targets.contains(&code.address);
-                work.line(code, &machines[&code.address], entered)?;
-            }
-        }
+    for code in lines.iter().filter_map(Line::code) {
+        let entered = targets.contains(&code.address);
+        work.line(code, &machines[&code.address], entered)?;
     }
     work.off(lines.iter().rev().find_map(Line::code));
     Ok(work.done("all lines in their order: a conditional jump is passed over as not taken"))
