@@ -298,23 +298,11 @@ impl<'a> Text<'a> {
             .map(|(&next, _)| next)
     }
 
-    /// The lines that may come behind one. A jump to where another
-    /// function begins is the end of this one; one whose target is not
-    /// told may go to any line of its function but those of the block that
-    /// it begins with.
+    /// The lines that may come behind one, if the text tells them. A jump
+    /// to where another function begins is the end of this one.
     fn behind(&self, code: &Code) -> Vec<u64> {
         let mut all = Vec::new();
-        if code.is_indirect() {
-            let begin = self.function(code.address);
-            let end = self.entries.range((Excluded(begin), Unbounded)).next();
-            let first = self.blocks.range(begin..).next().copied();
-            let first = first.unwrap_or(u64::MAX);
-            let lines = match end {
-                Some(&end) => self.code.range(first.min(end)..end),
-                None => self.code.range(first..),
-            };
-            all.extend(lines.map(|(&line, _)| line));
-        } else if code.name.starts_with('j') || code.name.starts_with("loop") {
+        if !code.is_indirect() && (code.name.starts_with('j') || code.name.starts_with("loop")) {
             let other = |target: &u64| {
                 self.entries.contains(target) && *target != self.function(code.address)
             };
@@ -324,6 +312,19 @@ impl<'a> Text<'a> {
             all.extend(self.next(code.address));
         }
         all
+    }
+
+    /// The lines that a jump whose target is not told may go to: all of its
+    /// function but those of the block that it begins with.
+    fn anywhere(&self, function: u64) -> impl Iterator<Item = u64> {
+        let end = self.entries.range((Excluded(function), Unbounded)).next();
+        let first = self.blocks.range(function..).next().copied();
+        let first = first.unwrap_or(u64::MAX);
+        let lines = match end {
+            Some(&end) => self.code.range(first.min(end)..end),
+            None => self.code.range(first..),
+        };
+        lines.map(|(&line, _)| line)
     }
 
     /// What is known before each line. Lines that no line leads to are
@@ -337,6 +338,7 @@ impl<'a> Text<'a> {
             before: BTreeMap::new(),
             after: BTreeMap::new(),
             visits: BTreeMap::new(),
+            joints: BTreeMap::new(),
             closed: BTreeSet::new(),
         };
         solver.run(self.entries.clone());
@@ -376,6 +378,9 @@ struct Solver<'a> {
     before: BTreeMap<u64, Machine>,
     after: BTreeMap<u64, Machine>,
     visits: BTreeMap<u64, u32>,
+    /// What holds behind all jumps of a function whose targets are not
+    /// told, and the first line that they may go to.
+    joints: BTreeMap<u64, (Machine, u64)>,
     /// Lines that are done.
     closed: BTreeSet<u64>,
 }
@@ -392,12 +397,39 @@ impl Solver<'_> {
             let mut behind = machine.clone();
             behind.step(code, self.callees);
             self.before.insert(line, machine);
+            if code.is_indirect() {
+                work.extend(self.join(line, &behind));
+            }
             self.after.insert(line, behind);
             let next = self.text.behind(code).into_iter();
             let open =
                 |next: &u64| self.text.code.contains_key(next) && !self.closed.contains(next);
             work.extend(next.filter(open));
         }
+    }
+
+    /// Join what is known behind a jump whose target is not told to that
+    /// of the others of its function; the lines for which less is known
+    /// then.
+    fn join(&mut self, jump: u64, behind: &Machine) -> Vec<u64> {
+        let function = self.text.function(jump);
+        let lines: Vec<u64> = self.text.anywhere(function).collect();
+        let Some(&first) = lines.first() else {
+            return Vec::new();
+        };
+        let less = match self.joints.get_mut(&function) {
+            Some((joint, _)) => {
+                let old = joint.clone();
+                joint.meet(behind, first);
+                *joint != old
+            }
+            None => {
+                self.joints.insert(function, (behind.clone(), first));
+                true
+            }
+        };
+        let open = |line: &u64| less && !self.closed.contains(line);
+        lines.into_iter().filter(open).collect()
     }
 
     /// What is known on coming to a line from all lines before it.
@@ -408,7 +440,15 @@ impl Solver<'_> {
         let entry = self.entries.contains(&line).then(|| Machine::entry(line));
         let ahead = self.ahead.get(&line).into_iter().flatten();
         let ways = ahead.filter_map(|ahead| self.after.get(ahead)).cloned();
-        let mut ways = entry.into_iter().chain(ways).chain(old.cloned());
+        let joint = self.joints.get(&self.text.function(line));
+        let joint = joint
+            .filter(|(_, first)| *first <= line)
+            .map(|(joint, _)| joint.clone());
+        let mut ways = entry
+            .into_iter()
+            .chain(ways)
+            .chain(joint)
+            .chain(old.cloned());
         let mut machine = ways.next().unwrap_or_else(|| Machine::entry(line));
         for way in ways {
             machine.meet(&way, line);

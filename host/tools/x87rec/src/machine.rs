@@ -13,6 +13,10 @@ use crate::passing::passes;
 use crate::place::{Place, Term, Version, sum};
 use crate::word::Word;
 
+/// The most places of which something is known; with more, all is
+/// forgotten.
+const MOST_PLACES: usize = 256;
+
 /// Registers that a call may change, in 32-bit and in 64-bit code.
 const LOST_32: [usize; 3] = [RAX, RCX, RDX];
 const LOST_64: [usize; 9] = [RAX, RCX, RDX, RSI, RDI, 8, 9, 10, 11];
@@ -611,6 +615,9 @@ impl Machine {
             apart
         });
         if let Some(place) = place.filter(|_| value != Value::Unknown) {
+            if self.memory.len() >= MOST_PLACES {
+                self.memory.clear();
+            }
             let stored = Stored {
                 bytes,
                 value,

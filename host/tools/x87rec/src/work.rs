@@ -14,7 +14,7 @@ use crate::operand::Numbering;
 use crate::passing::passes;
 use crate::path::{Step, Way};
 use crate::place::Place;
-use crate::{Options, Translated, Wrong};
+use crate::{MOST_BYTES, Options, Translated, Wrong};
 
 /// The name of a record that stands for an entry from elsewhere.
 const ENTRY: &str = "entry";
@@ -33,6 +33,8 @@ const CONTROL: [&str; 3] = ["fldcw", "fnstcw", "fstcw"];
 
 pub struct Work<'a> {
     done: Translated,
+    /// Bytes of records so far.
+    bytes: usize,
     numbering: Numbering,
     /// Whether the lifter has no stack to carry on: at the beginning, and
     /// after a record that it is sure to decline.
@@ -62,6 +64,7 @@ impl<'a> Work<'a> {
         used.dedup();
         Self {
             done: Translated::default(),
+            bytes: 0,
             numbering: Numbering::default(),
             forgotten: true,
             called: false,
@@ -184,12 +187,26 @@ impl<'a> Work<'a> {
         };
         // All names that the lifter models begin with an `f`.
         self.forgotten = !insn.mnemonic.starts_with('f');
+        self.fits(record.bytes.len())?;
         self.event(code.address, What::Record(record));
         if code.is_call() {
             self.called = true;
             self.doubt(code);
         }
         Ok(())
+    }
+
+    /// Whether `x87lift` takes so many bytes more, and the end mark.
+    fn fits(&mut self, more: usize) -> Result<(), Wrong> {
+        self.bytes += more;
+        if self.bytes + 2 <= MOST_BYTES {
+            return Ok(());
+        }
+        let why = format!(
+            "more records than the {MOST_BYTES} bytes that x87lift takes: \
+             take one function (--function) or one way (--path)"
+        );
+        Err(Wrong { line: 0, why })
     }
 
     /// Since when the control word may be another than that of the entry.
