@@ -18,6 +18,9 @@ pub struct Callees {
     /// Bytes that functions of the text take at their return, by their
     /// address.
     returns: BTreeMap<u64, i64>,
+    /// Where functions of the text begin, by the names that stand there
+    /// once.
+    names: BTreeMap<String, Option<u64>>,
     /// Calls of which it is not known what they take.
     doubtful: BTreeSet<u64>,
     /// What a call takes, where the way's return tells.
@@ -28,18 +31,18 @@ impl Callees {
     /// What the text tells.
     pub fn of(lines: &[Line], word: i64) -> Self {
         let mut returns: BTreeMap<u64, Option<i64>> = BTreeMap::new();
+        let mut names: BTreeMap<String, Option<u64>> = BTreeMap::new();
         let mut function = None;
         let targets = call_targets(lines);
-        let mut begins = true;
-        for line in lines {
-            let Line::Code(code) = line else {
-                begins = true;
-                continue;
-            };
-            if begins || targets.contains(&code.address) {
+        for code in lines.iter().filter_map(Line::code) {
+            let before = &code.before;
+            if before.broken || before.symbol.is_some() || targets.contains(&code.address) {
                 function = Some(code.address);
             }
-            begins = false;
+            if let Some(name) = before.symbol.clone() {
+                let other = names.get(&name).is_some();
+                names.insert(name, (!other).then_some(code.address));
+            }
             if let Some(function) = function.filter(|_| code.is_return()) {
                 let taken = taken(code);
                 let known = returns.entry(function).or_insert(Some(taken));
@@ -50,6 +53,7 @@ impl Callees {
         Self {
             word,
             returns: returns.into_iter().filter_map(known).collect(),
+            names,
             doubtful: BTreeSet::new(),
             solved: BTreeMap::new(),
         }
@@ -57,8 +61,14 @@ impl Callees {
 
     /// Whether the text tells what a call takes from the stack.
     pub fn is_told(&self, code: &Code) -> bool {
-        let target = code.target();
-        self.word == 8 || target.is_some_and(|target| self.returns.contains_key(&target))
+        self.word == 8 || self.taken(code).is_some()
+    }
+
+    /// What the called function takes, by its address or its name.
+    fn taken(&self, code: &Code) -> Option<i64> {
+        let named = || *self.names.get(code.symbol()?)?;
+        let function = code.target().or_else(named)?;
+        self.returns.get(&function).copied()
     }
 
     pub fn is_doubtful(&self, code: &Code) -> bool {
@@ -92,9 +102,8 @@ impl Calls for Callees {
         if self.is_doubtful(code) {
             return None;
         }
-        let told = code.target().and_then(|target| self.returns.get(&target));
-        let told = told.or_else(|| self.solved.get(&code.address));
-        Some(told.copied().unwrap_or(0))
+        let solved = self.solved.get(&code.address).copied();
+        Some(self.taken(code).or(solved).unwrap_or(0))
     }
 }
 
@@ -413,8 +422,7 @@ impl Solver<'_> {
     /// then.
     fn join(&mut self, jump: u64, behind: &Machine) -> Vec<u64> {
         let function = self.text.function(jump);
-        let lines: Vec<u64> = self.text.anywhere(function).collect();
-        let Some(&first) = lines.first() else {
+        let Some(first) = self.text.anywhere(function).next() else {
             return Vec::new();
         };
         let less = match self.joints.get_mut(&function) {
@@ -428,8 +436,11 @@ impl Solver<'_> {
                 true
             }
         };
-        let open = |line: &u64| less && !self.closed.contains(line);
-        lines.into_iter().filter(open).collect()
+        if !less {
+            return Vec::new();
+        }
+        let open = |line: &u64| !self.closed.contains(line);
+        self.text.anywhere(function).filter(open).collect()
     }
 
     /// What is known on coming to a line from all lines before it.

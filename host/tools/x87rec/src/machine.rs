@@ -13,9 +13,8 @@ use crate::passing::passes;
 use crate::place::{Place, Term, Version, sum};
 use crate::word::Word;
 
-/// The most places of which something is known; with more, all is
-/// forgotten.
-const MOST_PLACES: usize = 256;
+/// The most places of which something is known.
+const MOST_PLACES: usize = 32;
 
 /// Registers that a call may change, in 32-bit and in 64-bit code.
 const LOST_32: [usize; 3] = [RAX, RCX, RDX];
@@ -616,7 +615,7 @@ impl Machine {
         });
         if let Some(place) = place.filter(|_| value != Value::Unknown) {
             if self.memory.len() >= MOST_PLACES {
-                self.memory.clear();
+                self.forget_places();
             }
             let stored = Stored {
                 bytes,
@@ -624,6 +623,16 @@ impl Machine {
                 crossed: None,
             };
             self.memory.insert(place, stored);
+        }
+    }
+
+    /// Forget all places but those of control words; where these are too
+    /// many, all.
+    fn forget_places(&mut self) {
+        let is_control = |value| matches!(value, Value::Word(word) if word.is_constant().is_none());
+        self.memory.retain(|_, stored| is_control(stored.value));
+        if self.memory.len() >= MOST_PLACES {
+            self.memory.clear();
         }
     }
 
