@@ -39,8 +39,7 @@ pub const PROBES: [&str; 2] = ["jno", "jo"];
 /// Words that may stand before a name.
 const PREFIXES: [&str; 7] = ["addr16", "data16", "ds", "lock", "rep", "repnz", "repz"];
 
-/// Addresses from here on in the arena are those of the stack; pointers
-/// that a function is given point below them.
+/// Addresses from here on in the arena are those of the stack.
 pub const STACK: u32 = 512;
 
 /// How often each kind of belief was held against a run.
@@ -217,8 +216,7 @@ impl<'a> Held<'a> {
     fn loaded(&mut self, here: Here, words: &str) -> Told {
         let (what, unless) = words.split_once(", if ").unwrap_or((words, ""));
         let claim = Claim::of(what).ok_or("what is this?")?;
-        let mut wrote = unless.split([' ', ',']).filter_map(hexadecimal);
-        let void = wrote.any(|by| self.writes_stack(by, here.at));
+        let void = self.writes_stack(unless, here.at);
         if here.is_visited {
             self.void = void;
         }
@@ -236,13 +234,22 @@ impl<'a> Held<'a> {
         }
     }
 
-    /// Whether an instruction changed memory of the stack.
-    fn writes_stack(&self, address: u32, at: usize) -> bool {
+    /// Whether an instruction that is named, or one of the others behind
+    /// it where these are told of, changed memory of the stack.
+    fn writes_stack(&self, named: &str, at: usize) -> bool {
+        let mut words = named.split([' ', ',']);
+        let Some(first) = words.find_map(hexadecimal) else {
+            return false;
+        };
+        let others = words.any(|word| word == "others");
         let stack = self.beside.run.arena.address + STACK;
-        let mut visits = self.beside.visits_of(address, at);
+        let mut visits = (0..at).filter(|&visit| {
+            let ip = self.beside.before(visit).ip;
+            ip == first || others && ip > first
+        });
         visits.any(|visit| {
-            let changes = self.beside.changes(visit);
-            changes.into_iter().any(|(place, _)| place >= stack)
+            let mut changes = self.beside.changes(visit);
+            changes.any(|(place, _)| place >= stack)
         })
     }
 

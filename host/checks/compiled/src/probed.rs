@@ -55,9 +55,11 @@ pub const REGISTERS: [&str; 8] = ["eax", "ecx", "edx", "ebx", "esp", "ebp", "esi
 /// Moves that read CF, PF and ZF.
 const READERS: [&str; 3] = ["fcmovb", "fcmovu", "fcmove"];
 
-/// Where pointers point: so many places of the arena, from this one on.
+/// Where pointers point: so many places of the arena, from this one on; or
+/// else to where control words are, which the text must allow for.
 const DATA: usize = 128;
 const PLACES: usize = 16;
+const INTO_STACK: [usize; 3] = [784, 800, 816];
 
 /// A memory operand, such as `WORD PTR [esp-0x4]`.
 #[must_use]
@@ -216,9 +218,9 @@ impl<'a> Seen<'a> {
 pub fn arena(address: u32, rng: &mut Rng) -> [u8; ARENA] {
     let few = rng.one_in(2);
     let mut arena = [0; ARENA].map(|_: u8| byte(few, rng));
-    let mut arguments = vec![number(rng)];
-    arguments.extend([(); 3].map(|()| number(rng)));
-    arguments.extend([(); 4].map(|()| pointer(address, rng)));
+    let into_stack = rng.one_in(3);
+    let mut arguments = [(); 4].map(|()| number(rng)).to_vec();
+    arguments.extend([(); 4].map(|()| pointer(address, into_stack, rng)));
     for (at, word) in arguments.iter().enumerate() {
         let from = ARGUMENTS + 4 * at;
         arena[from..from + 4].copy_from_slice(&word.to_le_bytes());
@@ -253,7 +255,11 @@ fn number(rng: &mut Rng) -> u32 {
     }
 }
 
-fn pointer(address: u32, rng: &mut Rng) -> u32 {
-    let place = DATA + 16 * rng.below(PLACES);
+fn pointer(address: u32, into_stack: bool, rng: &mut Rng) -> u32 {
+    let place = if into_stack {
+        *rng.pick(&INTO_STACK)
+    } else {
+        DATA + 16 * rng.below(PLACES)
+    };
     address + u32::try_from(place).expect("a place of the arena")
 }
