@@ -3,9 +3,8 @@
 //! rounding there is, and that what it passes over leaves the x87 unit
 //! alone.
 //!
-//! The code has no turns. A line that the run did not come to is one of a
-//! probe, where the machine is that of the next visit, or one of another
-//! way, of which the run tells nothing.
+//! Lines of a probe, which runs jump over, are held against the machine
+//! at the next visit.
 
 use std::collections::{BTreeMap, HashMap};
 
@@ -47,22 +46,29 @@ pub type Counts = BTreeMap<&'static str, usize>;
 
 type Told = Result<(), String>;
 
-/// Hold all that is believed against a run.
+/// Hold all that is believed of a way against a run that took it. The way
+/// has no turns.
 ///
 /// # Errors
 /// The first belief that is not true.
-pub fn compare(notes: &Notes, beside: Beside, counts: &mut Counts) -> Told {
-    let mut held = Held {
-        notes,
-        beside,
-        places: HashMap::new(),
-        void: false,
-        counts,
-    };
+pub fn way(notes: &Notes, beside: Beside, counts: &mut Counts) -> Told {
+    let mut held = Held::new(notes, beside, counts);
     for event in &notes.events {
-        let told = held.event(event);
+        let here = held.coming(event.address);
+        let told = here.and_then(|here| held.event(here, event));
         told.map_err(|why| format!("{:x}: {why}", event.address))?;
     }
+    held.passed()
+}
+
+/// Hold all that is believed of a whole text against a run.
+///
+/// # Errors
+/// The first belief that is not true.
+pub fn whole(notes: &Notes, beside: Beside, counts: &mut Counts) -> Told {
+    let mut held = Held::new(notes, beside, counts);
+    held.turns = true;
+    (0..beside.visits.len()).try_for_each(|at| held.visit(at))?;
     held.passed()
 }
 
@@ -83,16 +89,60 @@ struct Held<'a> {
     /// Whether the control word was loaded under a condition that the run
     /// does not meet.
     void: bool,
+    /// Whether a line may stand for many visits.
+    turns: bool,
     counts: &'a mut Counts,
 }
 
 impl<'a> Held<'a> {
-    fn event(&mut self, event: &Event) -> Told {
-        let Some(here) = self.here(event.address)? else {
-            return Ok(());
-        };
+    fn new(notes: &'a Notes, beside: Beside<'a>, counts: &'a mut Counts) -> Self {
+        Self {
+            notes,
+            beside,
+            places: HashMap::new(),
+            void: false,
+            turns: false,
+            counts,
+        }
+    }
+
+    /// The lines of a visit, and those of a probe that it jumps over. Where
+    /// it jumps, the text does not go on.
+    fn visit(&mut self, at: usize) -> Told {
+        let (ip, next) = (self.beside.before(at).ip, self.beside.behind(at).ip);
+        let code = self.beside.code;
+        let skips = code
+            .at(ip)
+            .is_some_and(|code| PROBES.contains(&code.name.as_str()));
+        let last = if skips { next } else { ip + 1 };
+        let notes = self.notes;
+        let events = notes.events.iter();
+        let mut events = events.filter(|event| (ip.into()..last.into()).contains(&event.address));
+        events.try_for_each(|event| {
+            let here = Here {
+                at: at + usize::from(event.address != ip.into()),
+                is_visited: event.address == ip.into(),
+                code: u32::try_from(event.address)
+                    .ok()
+                    .and_then(|address| code.at(address))
+                    .ok_or("no instruction")?,
+            };
+            let told = self.event(here, event);
+            told.map_err(|why| format!("{:x}, visit {at}: {why}", event.address))
+        })?;
+        if code.behind(ip) != Some(next) && !skips {
+            self.places.clear();
+        }
+        Ok(())
+    }
+
+    fn event(&mut self, here: Here, event: &Event) -> Told {
         match &event.what {
-            What::Record(record) if !record.text.is_empty() => {
+            What::Record(record) if record.text.is_empty() => {
+                self.places.clear();
+                Ok(())
+            }
+            What::Record(record) => {
                 for (name, words) in &record.reads {
                     self.read(here, name, words)?;
                 }
@@ -107,23 +157,17 @@ impl<'a> Held<'a> {
         }
     }
 
-    fn here(&self, address: u64) -> Result<Option<Here<'a>>, String> {
+    /// Where the run comes to an address of the way.
+    fn coming(&self, address: u64) -> Result<Here<'a>, String> {
         let address = u32::try_from(address).map_err(|_| "a long address")?;
         let visits = 0..self.beside.visits.len();
         let mut coming = visits.filter(|&at| self.beside.before(at).ip >= address);
         let at = coming.next().ok_or("the run does not come here")?;
-        let is_visited = self.beside.before(at).ip == address;
-        let skips = |code: &Instruction| PROBES.contains(&code.name.as_str());
-        let before = at.checked_sub(1).and_then(|at| self.beside.instruction(at));
-        if !is_visited && !before.is_some_and(skips) {
-            return Ok(None);
-        }
-        let code = self.beside.code.at(address).ok_or("no instruction")?;
-        Ok(Some(Here {
+        Ok(Here {
             at,
-            is_visited,
-            code,
-        }))
+            is_visited: self.beside.before(at).ip == address,
+            code: self.beside.code.at(address).ok_or("no instruction")?,
+        })
     }
 
     fn count(&mut self, kind: &'static str) {
@@ -174,7 +218,10 @@ impl<'a> Held<'a> {
         let real = self.operand(here).ok_or("no operand")?;
         let text = self.notes.address(number.into()).ok_or("no such place")?;
         let sum = text.strip_prefix('[').and_then(|sum| sum.strip_suffix(']'));
-        let told = sum.and_then(|sum| self.beside.place(here.at, sum));
+        let told = sum.and_then(|sum| match self.turns {
+            true => self.beside.place_of_turn(here.at, sum),
+            false => self.beside.place(here.at, sum),
+        });
         self.count("places");
         if told != Some(real) {
             return Err(format!("{text} is {told:x?}, not {real:x}"));

@@ -97,6 +97,20 @@ impl<'a> Beside<'a> {
         place::address(sum, |register| self.register(at, register))
     }
 
+    /// The same in a text that does not tell turns apart: a register is as
+    /// the instruction left it the last time.
+    #[must_use]
+    pub fn place_of_turn(&self, at: usize, sum: &str) -> Option<u32> {
+        place::address(sum, |name| match name.split_once('@') {
+            Some((name, writer)) if !writer.starts_with('@') => {
+                let writer = u32::from_str_radix(writer, 16).ok()?;
+                let behind = self.behind_last(writer, at.checked_sub(1)?)?;
+                Some(behind.general[place::register(name)?])
+            }
+            _ => self.register(at, name),
+        })
+    }
+
     /// A register as the text names it: `esp0`, `eax`, as an instruction
     /// left it, `eax@2a`, as it left it the third time, `eax@2a#3`, or as
     /// it was on coming there, `eax@@2a`.

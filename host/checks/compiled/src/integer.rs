@@ -587,17 +587,15 @@ fn conditions() -> Vec<Form> {
         .collect()
 }
 
+/// String instructions of each size, with each prefix and target.
 fn strings() -> Vec<Form> {
-    let mut forms = Vec::new();
-    for (at, name) in STRINGS.iter().flat_map(|name| [name; 3]).enumerate() {
-        let size = ["b", "w", "d"][at % 3];
-        for repeat in REPEATS {
-            let text = format!("{repeat}{name}{size}");
-            let form = Form::new(text).after(&["and ecx,3"]);
-            forms.extend(TARGETS.map(|target| form.clone().after(target)));
-        }
-    }
-    forms
+    let names = STRINGS
+        .iter()
+        .flat_map(|name| ["b", "w", "d"].map(|size| format!("{name}{size}")));
+    let texts = names.flat_map(|name| REPEATS.map(|repeat| format!("{repeat}{name}")));
+    let forms = texts.map(|text| Form::new(text).after(&["and ecx,3"]));
+    let each = forms.flat_map(|form| TARGETS.map(|target| form.clone().after(target)));
+    each.collect()
 }
 
 /// Vector instructions, on registers that hold numbers.
@@ -606,16 +604,20 @@ fn vectors() -> Vec<Form> {
         "movups xmm0,XMMWORD PTR [ebx]",
         "movups xmm1,XMMWORD PTR [esi]",
     ];
-    let mut texts: Vec<String> = CROSSINGS.map(str::to_owned).to_vec();
-    for (name, size) in VECTORS {
-        texts.push(format!("{name} xmm0,xmm1"));
-        texts.push(format!("{name} xmm0,{size} PTR [ebx]"));
-    }
-    for (name, size, place) in MOVES {
-        texts.push(format!("{name} xmm0,{size} PTR [esi]"));
-        texts.push(format!("{name} {size} PTR [ebx],xmm1"));
-        texts.push(format!("{name} {size} PTR [esp{place}],xmm1"));
-    }
-    let forms = texts.into_iter().map(Form::new);
+    let computed = VECTORS.iter().flat_map(|(name, size)| {
+        [
+            format!("{name} xmm0,xmm1"),
+            format!("{name} xmm0,{size} PTR [ebx]"),
+        ]
+    });
+    let moved = MOVES.iter().flat_map(|(name, size, place)| {
+        [
+            format!("{name} xmm0,{size} PTR [esi]"),
+            format!("{name} {size} PTR [ebx],xmm1"),
+            format!("{name} {size} PTR [esp{place}],xmm1"),
+        ]
+    });
+    let crossed = CROSSINGS.iter().map(|&text| text.to_owned());
+    let forms = crossed.chain(computed).chain(moved).map(Form::new);
     forms.map(|form| form.after(&loads)).collect()
 }

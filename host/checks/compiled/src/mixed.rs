@@ -1,5 +1,5 @@
-//! Random code without turns: integer instructions with x87 loads, stores,
-//! compares, moves and control words between them, and jumps over some.
+//! Random code: integer instructions with x87 loads, stores, compares,
+//! moves and control words between them, jumps over some, and turns.
 
 use differential::rng::Rng;
 
@@ -149,11 +149,13 @@ struct Mixed<'a> {
     /// Where `ebp` is, where it is a frame.
     frame: Option<i32>,
     strings: usize,
+    /// Whether `edi` counts turns, and points nowhere.
+    turns: bool,
 }
 
-/// A function of random code.
+/// A function of random code, with turns or without.
 #[must_use]
-pub fn function(name: String, rng: &mut Rng) -> Function {
+pub fn function(name: String, turns: bool, rng: &mut Rng) -> Function {
     let lines = rng.between(10, 40);
     let mut mixed = Mixed {
         rng,
@@ -161,6 +163,7 @@ pub fn function(name: String, rng: &mut Rng) -> Function {
         depth: 0,
         frame: None,
         strings: 0,
+        turns,
     };
     for _ in 0..lines {
         mixed.more();
@@ -181,6 +184,7 @@ impl Mixed<'_> {
             16 => self.pointer(),
             17 => self.frame(),
             18 => self.aside(),
+            19 if self.turns && self.rng.one_in(2) => self.turn(),
             19 => self.branch(),
             _ => self.string(),
         }
@@ -238,7 +242,8 @@ impl Mixed<'_> {
     /// Memory: mostly where a control word may be, or beside that.
     fn memory(&mut self, size: &str) -> String {
         if self.rng.one_in(6) {
-            let base = *self.rng.pick(&["ebx", "esi", "edi"]);
+            let bases = ["ebx", "esi", "edi"];
+            let base = *self.rng.pick(&bases[..3 - usize::from(self.turns)]);
             return operand(size, base, 4);
         }
         let place = *self.rng.pick(&WORDS[..6]);
@@ -360,6 +365,25 @@ impl Mixed<'_> {
         let conditions: Vec<&&str> = conditions.collect();
         let condition = **self.rng.pick(&conditions);
         self.line(&format!("j{condition} 7f"));
+        self.some();
+        self.function.label("7");
+    }
+
+    /// Turns, two or three.
+    fn turn(&mut self) {
+        let count = self.rng.between(2, 3);
+        self.line(&format!("mov edi,{count}"));
+        self.function.label("6");
+        self.some();
+        self.control();
+        self.function.probe();
+        self.some();
+        self.line("dec edi");
+        self.line("jne 6b");
+    }
+
+    /// Some lines.
+    fn some(&mut self) {
         for _ in 0..self.rng.between(1, 4) {
             match self.rng.below(4) {
                 0 => self.one_of(&INTEGER),
@@ -368,11 +392,10 @@ impl Mixed<'_> {
                 _ => self.one_of(&["push eax", "pop ecx", "lea esp,[esp-4]", "nop", "stc"]),
             }
         }
-        self.function.label("7");
     }
 
     fn string(&mut self) {
-        if self.strings == STRINGS {
+        if self.strings == STRINGS || self.turns {
             return self.function.probe();
         }
         self.strings += 1;

@@ -60,8 +60,8 @@ impl Needless {
 
 /// Whether the last reader of a flag is told that this one wrote it.
 fn writes_flag(records: &[(u64, &Record)], flag: &str, address: u32) -> bool {
-    let reads = records.iter().flat_map(|(_, record)| &record.reads);
-    let last = reads.filter(|(name, _)| name == flag).next_back();
+    let mut reads = records.iter().flat_map(|(_, record)| &record.reads);
+    let last = reads.rfind(|(name, _)| name == flag);
     last.is_some_and(|(_, words)| words.contains(&format!(" at {address:x} ")))
 }
 

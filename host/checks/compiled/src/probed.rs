@@ -166,25 +166,37 @@ pub fn parts(disassembly: &str) -> HashMap<&str, &str> {
         .collect()
 }
 
-/// What is believed of a function: of the way on which these jumps are
-/// taken, and of the whole text.
-///
-/// # Errors
-/// Where the text is not understood.
-pub fn notes(part: &str, taken: &[u32]) -> Result<[Notes; 2], String> {
-    let takes = taken.iter().map(|&address| Take {
-        address: address.into(),
-        decisions: None,
-    });
-    let way = Options {
-        path: Some(takes.collect()),
-        ..Options::default()
-    };
-    let translated = |options| translate(part, options).map_err(|wrong| wrong.to_string());
-    Ok([
-        translated(&way)?.notes,
-        translated(&Options::default())?.notes,
-    ])
+/// What is believed of a function.
+#[derive(Debug, Clone)]
+pub struct Believed {
+    /// Of the way on which some jumps are taken.
+    pub way: Notes,
+    /// Of the whole text.
+    pub whole: Notes,
+}
+
+impl Believed {
+    /// What is believed of a text, and of the way on which these jumps are
+    /// taken.
+    ///
+    /// # Errors
+    /// Where the text is not understood.
+    pub fn of(text: &str, taken: &[u32]) -> Result<Self, String> {
+        let takes = taken.iter().map(|&address| Take {
+            address: address.into(),
+            decisions: None,
+        });
+        let options = Options {
+            path: Some(takes.collect()),
+            ..Options::default()
+        };
+        let notes = |options| translate(text, options).map(|translated| translated.notes);
+        let notes = |options| notes(options).map_err(|wrong| wrong.to_string());
+        Ok(Self {
+            way: notes(&options)?,
+            whole: notes(&Options::default())?,
+        })
+    }
 }
 
 /// A run of a function.
@@ -200,6 +212,13 @@ impl<'a> Seen<'a> {
     pub fn new(run: &'a Run, code: &'a Code) -> Self {
         let visits = begun(run, &visits(run, code));
         Self { run, code, visits }
+    }
+
+    /// Whether the run came to an instruction again.
+    #[must_use]
+    pub fn has_turns(&self) -> bool {
+        let ip = |at: usize| self.run.steps[at].ip;
+        !self.visits.is_sorted_by_key(|&at| ip(at))
     }
 
     #[must_use]

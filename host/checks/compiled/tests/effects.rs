@@ -4,14 +4,14 @@ use std::collections::{BTreeMap, BTreeSet, HashMap};
 use std::io::{self, Write as _};
 use std::path::Path;
 
-use compiled::belief::{Counts, compare, name};
+use compiled::belief::{self, Counts, name};
 use compiled::code::Code;
 use compiled::gcc::{assemble, llvm};
 use compiled::integer::{ABSENT, CONDITIONS, forms};
 use compiled::machine::Machine;
 use compiled::mixed;
 use compiled::needless::Needless;
-use compiled::probed::{Function, Seen, arena, assembly, notes, parts};
+use compiled::probed::{Believed, Function, Seen, arena, assembly, parts};
 use compiled::run::{ARENA, Run};
 use compiled::way::taken;
 use differential::rng::Rng;
@@ -80,7 +80,7 @@ fn started(name: &str, functions: &[Function]) -> Option<Tried> {
 struct Beliefs<'a> {
     code: Code,
     texts: Vec<&'a str>,
-    known: HashMap<Vec<u32>, Vec<Notes>>,
+    known: HashMap<Vec<u32>, Vec<Believed>>,
     /// What is changed of it.
     change: &'a dyn Fn(&mut Notes),
 }
@@ -100,14 +100,17 @@ impl<'a> Beliefs<'a> {
         }
     }
 
-    /// The first are those of the way in the first text.
-    fn of(&mut self, taken: Vec<u32>) -> &[Notes] {
+    /// What is believed of each text.
+    fn of(&mut self, taken: Vec<u32>) -> &[Believed] {
         self.known.entry(taken).or_insert_with_key(|taken| {
             let texts = self.texts.iter();
-            let notes = texts.flat_map(|text| notes(text, taken).expect("it is understood"));
-            let mut notes: Vec<Notes> = notes.collect();
-            notes.iter_mut().for_each(self.change);
-            notes
+            let believed = texts.map(|text| Believed::of(text, taken).expect("it is understood"));
+            let changed = believed.map(|mut believed| {
+                (self.change)(&mut believed.way);
+                (self.change)(&mut believed.whole);
+                believed
+            });
+            changed.collect()
         })
     }
 }
@@ -127,19 +130,30 @@ impl Held {
         tried: &mut Tried,
         beliefs: &mut Beliefs,
         rng: &mut Rng,
-        mut look: impl FnMut(&Notes, &Seen),
+        mut look: impl FnMut(&Seen),
     ) -> Result<(), String> {
         let code = beliefs.code.clone();
         for _ in 0..RUNS {
             let arena = arena(tried.machine.arena, rng);
             let run = tried.run(&code, &arena).map_err(|why| why.to_string())?;
             let seen = Seen::new(&run, &code);
-            let notes = beliefs.of(taken(seen.beside()));
-            look(&notes[0], &seen);
-            let mut all = notes.iter();
-            all.try_for_each(|notes| compare(notes, seen.beside(), &mut self.counts))?;
+            look(&seen);
+            self.run(beliefs, &seen)?;
         }
         Ok(())
+    }
+
+    /// Hold what is believed against a run; of a way only where it has no
+    /// turns.
+    fn run(&mut self, beliefs: &mut Beliefs, seen: &Seen) -> Result<(), String> {
+        let (turns, beside) = (seen.has_turns(), seen.beside());
+        let taken = if turns { Vec::new() } else { taken(beside) };
+        beliefs.of(taken).iter().try_for_each(|believed| {
+            if !turns {
+                belief::way(&believed.way, beside, &mut self.counts)?;
+            }
+            belief::whole(&believed.whole, beside, &mut self.counts)
+        })
     }
 
     /// The same for some functions, by their numbers.
@@ -147,14 +161,14 @@ impl Held {
         &mut self,
         tried: &mut Tried,
         functions: &[Function],
-        mut look: impl FnMut(usize, &Notes, &Seen),
+        mut look: impl FnMut(usize, &Seen),
     ) {
         let mut rng = Rng::new(87);
         let (objdump, llvm) = (tried.objdump.clone(), tried.llvm.clone());
         let parts = [parts(&objdump), parts(&llvm)];
         for (at, function) in functions.iter().enumerate() {
             let mut beliefs = Beliefs::new(&parts, &function.name);
-            let look = |notes: &Notes, seen: &Seen| look(at, notes, seen);
+            let look = |seen: &Seen| look(at, seen);
             let told = self.function(tried, &mut beliefs, &mut rng, look);
             let told = told.map_err(|why| format!("{why}\nin\n{function}"));
             self.differences.extend(told.err());
@@ -180,12 +194,16 @@ fn forms_do_what_is_believed() {
     let mut held = Held::default();
     let mut names = BTreeSet::new();
     let mut needless: BTreeMap<usize, Needless> = BTreeMap::new();
-    held.all(&mut tried, &functions, |at, notes, seen| {
+    let objdump = tried.objdump.clone();
+    let texts = parts(&objdump);
+    held.all(&mut tried, &functions, |at, seen| {
         let code = seen.beside().code;
         let address = code.address(places[at]).expect("it is there");
         names.extend(code.at(address).map(|code| name(code).to_owned()));
-        let entry = needless.entry(at);
-        let needless = entry.or_insert_with(|| Needless::told(notes, address));
+        let needless = needless.entry(at).or_insert_with(|| {
+            let believed = Believed::of(texts[functions[at].name.as_str()], &[]);
+            Needless::told(&believed.expect("it is understood").way, address)
+        });
         needless.run(seen.beside());
     });
     let mut told: BTreeMap<String, BTreeSet<&str>> = BTreeMap::new();
@@ -213,13 +231,16 @@ fn untried(names: &BTreeSet<String>) -> Vec<String> {
 #[test]
 fn mixtures_do_what_is_believed() {
     let mut rng = Rng::new(1);
-    let functions = (0..MIXED).map(|number| mixed::function(format!("mixed{number}"), &mut rng));
+    let functions = (0..MIXED).map(|number| {
+        let turns = number % 2 == 1;
+        mixed::function(format!("mixed{number}"), turns, &mut rng)
+    });
     let functions: Vec<Function> = functions.collect();
     let Some(mut tried) = started("mixed", &functions) else {
         return;
     };
     let mut held = Held::default();
-    held.all(&mut tried, &functions, |_, _, _| {});
+    held.all(&mut tried, &functions, |_, _| {});
     held.end();
 }
 
@@ -238,7 +259,7 @@ fn seen(function: &str, lines: &[&str], change: impl Fn(&mut Notes)) {
     let mut beliefs = Beliefs::new(&[parts(&objdump)], function);
     let mut told = |beliefs: &mut Beliefs| {
         let rng = &mut Rng::new(3);
-        Held::default().function(&mut tried, beliefs, rng, |_, _| {})
+        Held::default().function(&mut tried, beliefs, rng, |_| {})
     };
     assert_eq!(told(&mut beliefs), Ok(()));
     beliefs.known.clear();
