@@ -179,7 +179,7 @@ HERE static void tell_parts(void)
 
 /* The function is entered with the trap flag set, so that the first step
    is told at its first instruction. */
-__asm__(".section .harness,\"ax\"\n"
+__asm__(".section .harness,\"ax\"\n.globl back\n"
         "restore: mov $173, %eax; int $0x80\n"
         "step_through: pusha; mov 36(%esp), %eax; mov 40(%esp), %ecx\n"
         "mov %eax, function; mov %esp, stack; mov %ecx, %esp\n"

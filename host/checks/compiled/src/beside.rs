@@ -58,6 +58,12 @@ impl<'a> Beside<'a> {
         last.map(|last| self.behind(last))
     }
 
+    /// Words of the arena that a visit changed, and their new values.
+    pub fn changes(&self, at: usize) -> impl Iterator<Item = (u32, u32)> {
+        let steps = &self.run.steps[self.visits[at] + 1..=self.step_behind(at)];
+        steps.iter().flat_map(|step| step.changes.iter().copied())
+    }
+
     /// The instruction of a visit.
     #[must_use]
     pub fn instruction(&self, at: usize) -> Option<&'a Instruction> {
@@ -91,8 +97,23 @@ impl<'a> Beside<'a> {
         place::address(sum, |register| self.register(at, register))
     }
 
+    /// The same in a text that does not tell turns apart: a register is as
+    /// the instruction left it the last time.
+    #[must_use]
+    pub fn place_of_turn(&self, at: usize, sum: &str) -> Option<u32> {
+        place::address(sum, |name| match name.split_once('@') {
+            Some((name, writer)) if !writer.starts_with('@') => {
+                let writer = u32::from_str_radix(writer, 16).ok()?;
+                let behind = self.behind_last(writer, at.checked_sub(1)?)?;
+                Some(behind.general[place::register(name)?])
+            }
+            _ => self.register(at, name),
+        })
+    }
+
     /// A register as the text names it: `esp0`, `eax`, as an instruction
-    /// left it, `eax@2a`, or as it left it the third time, `eax@2a#3`.
+    /// left it, `eax@2a`, as it left it the third time, `eax@2a#3`, or as
+    /// it was on coming there, `eax@@2a`.
     fn register(&self, at: usize, name: &str) -> Option<u32> {
         if name == "esp0" {
             return Some(self.run.esp0());
@@ -100,6 +121,11 @@ impl<'a> Beside<'a> {
         let Some((name, writer)) = name.split_once('@') else {
             return Some(self.before(at).general[place::register(name)?]);
         };
+        if let Some(address) = writer.strip_prefix('@') {
+            let address = u32::from_str_radix(address, 16).ok()?;
+            let visit = self.visits_of(address, at).next_back()?;
+            return Some(self.before(visit).general[place::register(name)?]);
+        }
         let (address, time) = writer.split_once('#').unwrap_or((writer, "1"));
         let address = u32::from_str_radix(address, 16).ok()?;
         let earlier = time.parse::<usize>().ok()?.checked_sub(1)?;

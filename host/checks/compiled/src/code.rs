@@ -54,6 +54,12 @@ impl Code {
         self.0.keys().next().copied()
     }
 
+    /// The address of an instruction by its number, from 0 on.
+    #[must_use]
+    pub fn address(&self, number: usize) -> Option<u32> {
+        self.0.keys().nth(number).copied()
+    }
+
     /// The instruction at an address.
     #[must_use]
     pub fn at(&self, address: u32) -> Option<&Instruction> {

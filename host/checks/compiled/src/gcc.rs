@@ -1,5 +1,6 @@
 //! Compiling and disassembling.
 
+use std::fs;
 use std::io;
 use std::path::{Path, PathBuf};
 use std::process::Command;
@@ -36,21 +37,59 @@ pub struct Compiled {
 /// # Errors
 /// Where gcc or objdump cannot do it here.
 pub fn compile(group: &Group, level: &str, folder: &Path) -> io::Result<Compiled> {
-    let code = Path::new(env!("CARGO_MANIFEST_DIR")).join("code");
     let name = format!("{}{level}", group.name);
-    let program = folder.join(&name);
+    let source = code().join(group.source);
+    linked(&name, level, group.options, &source, folder)
+}
+
+/// Assemble functions into a folder.
+///
+/// # Errors
+/// Where gcc or objdump cannot do it here.
+pub fn assemble(name: &str, assembly: &str, folder: &Path) -> io::Result<Compiled> {
+    let source = folder.join(format!("{name}.s"));
+    fs::write(&source, assembly)?;
+    linked(name, "-O1", &[], &source, folder)
+}
+
+/// The same code as LLVM's tool writes it.
+///
+/// # Errors
+/// Where there is no such tool.
+pub fn llvm(program: &Path) -> io::Result<String> {
+    output(
+        Command::new("llvm-objdump")
+            .args(["-d", "--x86-asm-syntax=intel", "-j", ".text"])
+            .arg(program),
+    )
+}
+
+/// Where the C files are.
+fn code() -> PathBuf {
+    Path::new(env!("CARGO_MANIFEST_DIR")).join("code")
+}
+
+/// Make a program of a source and the harness.
+fn linked(
+    name: &str,
+    level: &str,
+    options: &[&str],
+    source: &Path,
+    folder: &Path,
+) -> io::Result<Compiled> {
+    let program = folder.join(name);
     output(
         Command::new("gcc")
             .args(OPTIONS)
-            .args(group.options)
+            .args(options)
             .arg(level)
             .arg("-o")
             .arg(&program)
-            .args([code.join("harness.c"), code.join(group.source)]),
+            .args([&code().join("harness.c"), source]),
     )?;
     let objdump = output(
         Command::new("objdump")
-            .args(["-d", "-M", "intel", "-j", ".text", &name])
+            .args(["-d", "-M", "intel", "-j", ".text", name])
             .current_dir(folder),
     )?;
     Ok(Compiled { program, objdump })

@@ -13,6 +13,7 @@
 //! for machines where gcc makes no 32-bit code, or where such code does not
 //! run. `cargo run --offline -p compiled --bin store` writes them again.
 
+pub mod belief;
 pub mod beside;
 pub mod check;
 pub mod code;
@@ -21,8 +22,12 @@ pub mod formula;
 pub mod functions;
 pub mod gcc;
 pub mod inputs;
+pub mod integer;
 pub mod machine;
+pub mod mixed;
+pub mod needless;
 pub mod place;
+pub mod probed;
 pub mod reading;
 pub mod run;
 pub mod stored;

@@ -51,6 +51,13 @@ impl Step {
         let empty = self.tags >> (2 * register) & 3 == 3;
         (!empty).then_some(Extended(self.registers[register]))
     }
+
+    /// Whether all of the x87 unit is as it is at another step.
+    #[must_use]
+    pub fn has_x87_of(&self, other: &Self) -> bool {
+        let words = |step: &Self| (step.control, step.status, step.tags);
+        words(self) == words(other) && self.registers == other.registers
+    }
 }
 
 /// What the machine did with a function.

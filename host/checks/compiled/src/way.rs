@@ -5,6 +5,8 @@ use std::collections::BTreeMap;
 use program::Program;
 use x87rec::{Options, Take, translate};
 
+use crate::belief::PROBES;
+use crate::beside::Beside;
 use crate::code::Code;
 use crate::run::Run;
 
@@ -17,6 +19,30 @@ pub fn visits(run: &Run, code: &Code) -> Vec<usize> {
     let steps = run.steps.iter().enumerate();
     let inside = steps.filter(|(_, step)| code.at(step.ip).is_some());
     inside.map(|(at, _)| at).collect()
+}
+
+/// The visits without those at which a repeated instruction goes on.
+#[must_use]
+pub fn begun(run: &Run, visits: &[usize]) -> Vec<usize> {
+    let ip = |at: usize| run.steps[at].ip;
+    let mut begun = visits.to_vec();
+    begun.dedup_by(|later, earlier| ip(*later) == ip(*earlier));
+    begun
+}
+
+/// The conditional jumps that a run took to elsewhere than the next
+/// instruction, but for those over a probe.
+#[must_use]
+pub fn taken(beside: Beside) -> Vec<u32> {
+    let visits = 0..beside.visits.len();
+    let jumps = visits.filter(|&at| {
+        let code = beside.instruction(at);
+        code.is_some_and(|code| code.is_conditional_jump() && !PROBES.contains(&code.name.as_str()))
+    });
+    let ends = jumps.map(|at| (beside.before(at).ip, beside.behind(at).ip));
+    ends.filter(|&(ip, next)| beside.code.behind(ip) != Some(next))
+        .map(|(ip, _)| ip)
+        .collect()
 }
 
 /// What was decided at the visits of a run.
