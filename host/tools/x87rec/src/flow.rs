@@ -18,6 +18,9 @@ pub struct Callees {
     /// Bytes that functions of the text take at their return, by their
     /// address.
     returns: BTreeMap<u64, i64>,
+    /// Where functions of the text begin, by the names that stand there
+    /// once.
+    names: BTreeMap<String, Option<u64>>,
     /// Calls of which it is not known what they take.
     doubtful: BTreeSet<u64>,
     /// What a call takes, where the way's return tells.
@@ -28,18 +31,18 @@ impl Callees {
     /// What the text tells.
     pub fn of(lines: &[Line], word: i64) -> Self {
         let mut returns: BTreeMap<u64, Option<i64>> = BTreeMap::new();
+        let mut names: BTreeMap<String, Option<u64>> = BTreeMap::new();
         let mut function = None;
         let targets = call_targets(lines);
-        let mut begins = true;
-        for line in lines {
-            let Line::Code(code) = line else {
-                begins = true;
-                continue;
-            };
-            if begins || targets.contains(&code.address) {
+        for code in lines.iter().filter_map(Line::code) {
+            let before = &code.before;
+            if before.broken || before.symbol.is_some() || targets.contains(&code.address) {
                 function = Some(code.address);
             }
-            begins = false;
+            if let Some(name) = before.symbol.clone() {
+                let other = names.get(&name).is_some();
+                names.insert(name, (!other).then_some(code.address));
+            }
             if let Some(function) = function.filter(|_| code.is_return()) {
                 let taken = taken(code);
                 let known = returns.entry(function).or_insert(Some(taken));
@@ -50,6 +53,7 @@ impl Callees {
         Self {
             word,
             returns: returns.into_iter().filter_map(known).collect(),
+            names,
             doubtful: BTreeSet::new(),
             solved: BTreeMap::new(),
         }
@@ -57,8 +61,14 @@ impl Callees {
 
     /// Whether the text tells what a call takes from the stack.
     pub fn is_told(&self, code: &Code) -> bool {
-        let target = code.target();
-        self.word == 8 || target.is_some_and(|target| self.returns.contains_key(&target))
+        self.word == 8 || self.taken(code).is_some()
+    }
+
+    /// What the called function takes, by its address or its name.
+    fn taken(&self, code: &Code) -> Option<i64> {
+        let named = || *self.names.get(code.symbol()?)?;
+        let function = code.target().or_else(named)?;
+        self.returns.get(&function).copied()
     }
 
     pub fn is_doubtful(&self, code: &Code) -> bool {
@@ -92,9 +102,8 @@ impl Calls for Callees {
         if self.is_doubtful(code) {
             return None;
         }
-        let told = code.target().and_then(|target| self.returns.get(&target));
-        let told = told.or_else(|| self.solved.get(&code.address));
-        Some(told.copied().unwrap_or(0))
+        let solved = self.solved.get(&code.address).copied();
+        Some(self.taken(code).or(solved).unwrap_or(0))
     }
 }
 
@@ -298,23 +307,11 @@ impl<'a> Text<'a> {
             .map(|(&next, _)| next)
     }
 
-    /// The lines that may come behind one. A jump to where another
-    /// function begins is the end of this one; one whose target is not
-    /// told may go to any line of its function but those of the block that
-    /// it begins with.
+    /// The lines that may come behind one, if the text tells them. A jump
+    /// to where another function begins is the end of this one.
     fn behind(&self, code: &Code) -> Vec<u64> {
         let mut all = Vec::new();
-        if code.is_indirect() {
-            let begin = self.function(code.address);
-            let end = self.entries.range((Excluded(begin), Unbounded)).next();
-            let first = self.blocks.range(begin..).next().copied();
-            let first = first.unwrap_or(u64::MAX);
-            let lines = match end {
-                Some(&end) => self.code.range(first.min(end)..end),
-                None => self.code.range(first..),
-            };
-            all.extend(lines.map(|(&line, _)| line));
-        } else if code.name.starts_with('j') || code.name.starts_with("loop") {
+        if !code.is_indirect() && (code.name.starts_with('j') || code.name.starts_with("loop")) {
             let other = |target: &u64| {
                 self.entries.contains(target) && *target != self.function(code.address)
             };
@@ -324,6 +321,19 @@ impl<'a> Text<'a> {
             all.extend(self.next(code.address));
         }
         all
+    }
+
+    /// The lines that a jump whose target is not told may go to: all of its
+    /// function but those of the block that it begins with.
+    fn anywhere(&self, function: u64) -> impl Iterator<Item = u64> {
+        let end = self.entries.range((Excluded(function), Unbounded)).next();
+        let first = self.blocks.range(function..).next().copied();
+        let first = first.unwrap_or(u64::MAX);
+        let lines = match end {
+            Some(&end) => self.code.range(first.min(end)..end),
+            None => self.code.range(first..),
+        };
+        lines.map(|(&line, _)| line)
     }
 
     /// What is known before each line. Lines that no line leads to are
@@ -337,6 +347,7 @@ impl<'a> Text<'a> {
             before: BTreeMap::new(),
             after: BTreeMap::new(),
             visits: BTreeMap::new(),
+            joints: BTreeMap::new(),
             closed: BTreeSet::new(),
         };
         solver.run(self.entries.clone());
@@ -376,6 +387,9 @@ struct Solver<'a> {
     before: BTreeMap<u64, Machine>,
     after: BTreeMap<u64, Machine>,
     visits: BTreeMap<u64, u32>,
+    /// What holds behind all jumps of a function whose targets are not
+    /// told, and the first line that they may go to.
+    joints: BTreeMap<u64, (Machine, u64)>,
     /// Lines that are done.
     closed: BTreeSet<u64>,
 }
@@ -392,12 +406,41 @@ impl Solver<'_> {
             let mut behind = machine.clone();
             behind.step(code, self.callees);
             self.before.insert(line, machine);
+            if code.is_indirect() {
+                work.extend(self.join(line, &behind));
+            }
             self.after.insert(line, behind);
             let next = self.text.behind(code).into_iter();
             let open =
                 |next: &u64| self.text.code.contains_key(next) && !self.closed.contains(next);
             work.extend(next.filter(open));
         }
+    }
+
+    /// Join what is known behind a jump whose target is not told to that
+    /// of the others of its function; the lines for which less is known
+    /// then.
+    fn join(&mut self, jump: u64, behind: &Machine) -> Vec<u64> {
+        let function = self.text.function(jump);
+        let Some(first) = self.text.anywhere(function).next() else {
+            return Vec::new();
+        };
+        let less = match self.joints.get_mut(&function) {
+            Some((joint, _)) => {
+                let old = joint.clone();
+                joint.meet(behind, first);
+                *joint != old
+            }
+            None => {
+                self.joints.insert(function, (behind.clone(), first));
+                true
+            }
+        };
+        if !less {
+            return Vec::new();
+        }
+        let open = |line: &u64| !self.closed.contains(line);
+        self.text.anywhere(function).filter(open).collect()
     }
 
     /// What is known on coming to a line from all lines before it.
@@ -408,7 +451,15 @@ impl Solver<'_> {
         let entry = self.entries.contains(&line).then(|| Machine::entry(line));
         let ahead = self.ahead.get(&line).into_iter().flatten();
         let ways = ahead.filter_map(|ahead| self.after.get(ahead)).cloned();
-        let mut ways = entry.into_iter().chain(ways).chain(old.cloned());
+        let joint = self.joints.get(&self.text.function(line));
+        let joint = joint
+            .filter(|(_, first)| *first <= line)
+            .map(|(joint, _)| joint.clone());
+        let mut ways = entry
+            .into_iter()
+            .chain(ways)
+            .chain(joint)
+            .chain(old.cloned());
         let mut machine = ways.next().unwrap_or_else(|| Machine::entry(line));
         for way in ways {
             machine.meet(&way, line);

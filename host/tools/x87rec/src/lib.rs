@@ -200,6 +200,10 @@ impl fmt::Display for Translated {
 /// many bytes.
 pub fn translate(text: &str, options: &Options) -> Result<Translated, Wrong> {
     let all = line::all(text)?;
+    if !all.iter().any(|line| line.code().is_some()) {
+        let why = "the text has no instruction: did the step before this one fail?".to_owned();
+        return Err(Wrong { line: 0, why });
+    }
     let (word, apart) = (stack_word(&all), twice(&all).is_none());
     let told = apart.then(|| Callees::of(&all, word));
     let targets: BTreeSet<u64> = all
@@ -222,14 +226,13 @@ pub fn translate(text: &str, options: &Options) -> Result<Translated, Wrong> {
     // Where sections begin at the same address, only its own lines tell
     // what a function calls.
     let mut callees = told.unwrap_or_else(|| Callees::of(&lines, word));
-    let translated = match &options.path {
+    match &options.path {
         Some(takes) => {
             let way = path::follow(lines, takes)?;
             one_way(&way, &mut callees, options)
         }
         None => whole(&lines, &targets, &mut callees, options),
-    }?;
-    fits(translated)
+    }
 }
 
 /// The first line whose address an earlier one has.
@@ -277,29 +280,10 @@ fn whole(
     let code = lines.iter().filter_map(Line::code);
     let code = code.map(|code| (code, &machines[&code.address]));
     let mut work = Work::new(options, callees, code);
-    for line in lines {
-        match line {
-            Line::Break => work.broken(None),
-            Line::Symbol(name) => work.broken(Some(name)),
-            Line::Code(code) => {
-                let entered = targets.contains(&code.address);
-                work.line(code, &machines[&code.address], entered)?;
-            }
-        }
+    for code in lines.iter().filter_map(Line::code) {
+        let entered = targets.contains(&code.address);
+        work.line(code, &machines[&code.address], entered)?;
     }
     work.off(lines.iter().rev().find_map(Line::code));
     Ok(work.done("all lines in their order: a conditional jump is passed over as not taken"))
-}
-
-/// The translation, if `x87lift` takes its bytes.
-fn fits(translated: Translated) -> Result<Translated, Wrong> {
-    let bytes = translated.bytes().len();
-    if bytes <= MOST_BYTES {
-        return Ok(translated);
-    }
-    let why = format!(
-        "{bytes} bytes of records, and x87lift takes {MOST_BYTES}: \
-         take one function (--function) or one way (--path)"
-    );
-    Err(Wrong { line: 0, why })
 }

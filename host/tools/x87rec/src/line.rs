@@ -45,13 +45,11 @@ pub struct Code {
 
 /// What stands between an instruction and the one above it.
 #[derive(Debug, Clone, PartialEq, Eq, Default)]
-pub enum Before {
-    #[default]
-    Nothing,
+pub struct Before {
+    /// Whether a section begins, or bytes were skipped.
+    pub broken: bool,
     /// The symbol of a function.
-    Symbol(String),
-    /// A section begins, or bytes were skipped.
-    Break,
+    pub symbol: Option<String>,
 }
 
 /// A line of `objdump -dr` below an instruction.
@@ -75,7 +73,7 @@ const PREFIXES: [&str; 20] = [
 pub fn all(text: &str) -> Result<Vec<Line>, Wrong> {
     let mut lines: Vec<Line> = Vec::new();
     let mut last = None;
-    let mut before = Before::Nothing;
+    let mut before = Before::default();
     for (at, line) in text.lines().enumerate() {
         let wrong = |why: String| Wrong { line: at + 1, why };
         match one(line, at + 1).map_err(wrong)? {
@@ -89,11 +87,8 @@ pub fn all(text: &str) -> Result<Vec<Line>, Wrong> {
             }
             Some(Read::Line(mut line)) => {
                 match &mut line {
-                    Line::Break => before = Before::Break,
-                    Line::Symbol(name) if before != Before::Break => {
-                        before = Before::Symbol(name.clone());
-                    }
-                    Line::Symbol(_) => {}
+                    Line::Break => before.broken = true,
+                    Line::Symbol(name) => before.symbol = Some(name.clone()),
                     Line::Code(code) => {
                         code.before = std::mem::take(&mut before);
                         followed(&mut lines, last, code.address);
@@ -240,7 +235,7 @@ fn code(line: usize, address: u64, text: &str) -> Result<Code, String> {
         operands: operands(rest)?,
         comment: comment.split_whitespace().next().and_then(hexadecimal),
         relocation: None,
-        before: Before::Nothing,
+        before: Before::default(),
     })
 }
 

@@ -13,6 +13,9 @@ use crate::passing::passes;
 use crate::place::{Place, Term, Version, sum};
 use crate::word::Word;
 
+/// The most places of which something is known.
+const MOST_PLACES: usize = 32;
+
 /// Registers that a call may change, in 32-bit and in 64-bit code.
 const LOST_32: [usize; 3] = [RAX, RCX, RDX];
 const LOST_64: [usize; 9] = [RAX, RCX, RDX, RSI, RDI, 8, 9, 10, 11];
@@ -611,12 +614,25 @@ impl Machine {
             apart
         });
         if let Some(place) = place.filter(|_| value != Value::Unknown) {
+            if self.memory.len() >= MOST_PLACES {
+                self.forget_places();
+            }
             let stored = Stored {
                 bytes,
                 value,
                 crossed: None,
             };
             self.memory.insert(place, stored);
+        }
+    }
+
+    /// Forget all places but those of control words; where these are too
+    /// many, all.
+    fn forget_places(&mut self) {
+        let is_control = |value| matches!(value, Value::Word(word) if word.is_constant().is_none());
+        self.memory.retain(|_, stored| is_control(stored.value));
+        if self.memory.len() >= MOST_PLACES {
+            self.memory.clear();
         }
     }
 

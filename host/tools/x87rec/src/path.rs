@@ -4,7 +4,7 @@ use std::collections::{BTreeMap, BTreeSet, HashMap};
 use std::ops::Bound::{Excluded, Unbounded};
 
 use crate::Wrong;
-use crate::line::{Before, Code, Line};
+use crate::line::{Code, Line};
 
 /// A conditional jump that is taken on the way.
 #[derive(Debug, Clone, PartialEq, Eq)]
@@ -142,7 +142,7 @@ impl Walk<'_> {
     /// The line below, unless something was left out between.
     fn below(&self, address: u64) -> Option<u64> {
         let (&next, code) = self.code.range((Excluded(address), Unbounded)).next()?;
-        (code.before != Before::Break).then_some(next)
+        (!code.before.broken).then_some(next)
     }
 
     /// Whether a jump is taken this time. A decision that is listed lets

@@ -115,6 +115,9 @@ pub fn sum(text: &str, code: &Code) -> Option<(Address, Option<String>)> {
         }
     }
     if is_unlinked(&sum, text) {
+        if text.contains("rip") {
+            sum.offset = 0;
+        }
         return Some((sum, own("unlinked")));
     }
     Some((sum, None))

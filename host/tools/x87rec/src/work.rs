@@ -8,13 +8,13 @@ use sleetgate::{Instruction, Operand, Place as Numbers, write_record};
 use crate::control::{Verdict, loaded, verdict};
 use crate::effects::{FLAG_COMPARES, FLAG_NAMES, is_x87, reads, reads_status, stores};
 use crate::flow::Callees;
-use crate::line::{Before, Code};
+use crate::line::Code;
 use crate::machine::{Calls, Change, Machine, Writer};
 use crate::operand::Numbering;
 use crate::passing::passes;
 use crate::path::{Step, Way};
 use crate::place::Place;
-use crate::{Options, Translated, Wrong};
+use crate::{MOST_BYTES, Options, Translated, Wrong};
 
 /// The name of a record that stands for an entry from elsewhere.
 const ENTRY: &str = "entry";
@@ -33,14 +33,12 @@ const CONTROL: [&str; 3] = ["fldcw", "fnstcw", "fstcw"];
 
 pub struct Work<'a> {
     done: Translated,
+    /// Bytes of records so far.
+    bytes: usize,
     numbering: Numbering,
     /// Whether the lifter has no stack to carry on: at the beginning, and
     /// after a record that it is sure to decline.
     forgotten: bool,
-    /// Whether the next instruction does not follow on the last, and the
-    /// symbol that stands before it.
-    broken: bool,
-    symbol: Option<String>,
     /// Whether a call was met.
     called: bool,
     names: HashMap<u64, &'a str>,
@@ -66,10 +64,9 @@ impl<'a> Work<'a> {
         used.dedup();
         Self {
             done: Translated::default(),
+            bytes: 0,
             numbering: Numbering::default(),
             forgotten: true,
-            broken: false,
-            symbol: None,
             called: false,
             names: code
                 .map(|(code, _)| (code.address, code.name.as_str()))
@@ -80,20 +77,15 @@ impl<'a> Work<'a> {
         }
     }
 
-    /// The next instruction does not follow on the last.
-    pub fn broken(&mut self, symbol: Option<&str>) {
-        self.broken = true;
-        self.symbol = symbol.map(str::to_owned);
-    }
-
     /// A line of the whole text.
     pub fn line(&mut self, code: &Code, machine: &Machine, target: bool) -> Result<(), Wrong> {
-        let entered = std::mem::take(&mut self.broken) || target;
+        let before = &code.before;
+        let entered = before.broken || before.symbol.is_some() || target;
         if entered && !self.forgotten {
             self.entry(code.address);
         }
-        if let Some(symbol) = self.symbol.take() {
-            self.event(code.address, What::Begin(symbol));
+        if let Some(name) = &before.symbol {
+            self.event(code.address, What::Begin(name.clone()));
         }
         if code.is_return() {
             self.stack(code, "a return, with this stack");
@@ -110,8 +102,13 @@ impl<'a> Work<'a> {
     /// A line of a way.
     pub fn step(&mut self, step: &Step, machine: &Machine) -> Result<(), Wrong> {
         let code = &step.code;
-        if let Before::Symbol(name) = &code.before {
-            self.event(code.address, What::Begin(name.clone()));
+        let what = match &code.before.symbol {
+            Some(name) if self.done.lines == 0 => Some(What::Begin(name.clone())),
+            Some(name) => Some(What::Remark(format!("the way goes on in {name}"))),
+            None => None,
+        };
+        if let Some(what) = what {
+            self.event(code.address, what);
         }
         match step.taken {
             Some(true) => self.remark(code, "taken"),
@@ -190,12 +187,26 @@ impl<'a> Work<'a> {
         };
         // All names that the lifter models begin with an `f`.
         self.forgotten = !insn.mnemonic.starts_with('f');
+        self.fits(record.bytes.len())?;
         self.event(code.address, What::Record(record));
         if code.is_call() {
             self.called = true;
             self.doubt(code);
         }
         Ok(())
+    }
+
+    /// Whether `x87lift` takes so many bytes more, and the end mark.
+    fn fits(&mut self, more: usize) -> Result<(), Wrong> {
+        self.bytes += more;
+        if self.bytes + 2 <= MOST_BYTES {
+            return Ok(());
+        }
+        let why = format!(
+            "more records than the {MOST_BYTES} bytes that x87lift takes: \
+             take one function (--function) or one way (--path)"
+        );
+        Err(Wrong { line: 0, why })
     }
 
     /// Since when the control word may be another than that of the entry.

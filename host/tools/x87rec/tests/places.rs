@@ -101,6 +101,9 @@ fn a_call_to_the_next_line_pushes() {
 fn a_call_into_the_text_takes_what_its_returns_say() {
     let lines = "0 push eax\n2 call 20\n4 fld DWORD PTR [esp]\n6 jmp eax\n20 nop\n22 ret 0x4\n";
     assert_eq!(places(&with(lines, &path(&[]))), ["[esp0]"]);
+    let named = "0 push eax\n2 call 3\n3: R_386_PC32 g\n7 fld DWORD PTR [esp]\n9 jmp eax\n\
+                 00000020 <g>:\n20 ret 0x4\n";
+    assert_eq!(places(&with(named, &path(&[]))), ["[esp0]"]);
     let long = "0 push rax\n2 call 900\n4 fld QWORD PTR [rsp+0x8]\n6 jmp rax\n";
     assert_eq!(places(&with(long, &path(&[]))), ["[rsp0]"]);
 }
@@ -293,7 +296,7 @@ fn addresses_with_registers_may_not_be_linked_either() {
     ];
     assert_eq!(on_way(&lines), expected);
     let long = "0 fld QWORD PTR [rip+0x0]        # 6 <f+0x6>\n6 ret\n";
-    assert_eq!(places(&records(long)), ["[unlinked of 0+0x6]"]);
+    assert_eq!(places(&records(long)), ["[unlinked of 0]"]);
 }
 
 #[test]

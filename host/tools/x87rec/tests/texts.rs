@@ -217,7 +217,7 @@ fn what_is_too_long_is_refused_with_words() {
     let lines: String = (0..1_100).map(|at| format!("{at:x} fld1\n")).collect();
     let why = wrong(&lines).to_string();
     assert!(
-        why.contains("x87lift takes 16384: take one function"),
+        why.contains("the 16384 bytes that x87lift takes: take one function"),
         "{why}"
     );
 }

@@ -2,6 +2,8 @@
 
 mod common;
 
+use notes::What;
+
 use common::{named, path, reads, records, remarks, with};
 use x87rec::{Options, Take, translate};
 
@@ -61,6 +63,19 @@ fn the_end_of_a_way_is_told() {
         leaves.starts_with("2 jmp g: the way leaves the code"),
         "{leaves}"
     );
+}
+
+#[test]
+fn a_way_into_another_function_is_told() {
+    let text = "00000000 <f>:\n0 fld1\n2 jmp 10 <g>\n\n00000010 <g>:\n10 fldz\n12 ret\n";
+    let told = with(text, &path(&[]));
+    assert_eq!(remarks(&told)[0], "10 the way goes on in g");
+    let begins = told
+        .notes
+        .events
+        .iter()
+        .filter(|event| matches!(event.what, What::Begin(_)));
+    assert_eq!(begins.count(), 1);
 }
 
 #[test]

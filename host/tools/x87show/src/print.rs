@@ -60,7 +60,7 @@ pub fn with_notes(listing: &Listing, notes: &Notes, spans: &[Span]) -> String {
     }
     let mut left = spans.iter();
     for event in &notes.events {
-        page.address = Some(event.address);
+        page.arrive(event.address);
         let What::Record(record) = &event.what else {
             page.event(event);
             continue;
@@ -174,6 +174,8 @@ struct Page<'a> {
     /// Where the stack begins, and how many places below were taken.
     ground: Ground,
     taken: u64,
+    /// Whether the last record went elsewhere.
+    left: bool,
     /// The stack as it is now.
     places: Vec<u64>,
     text: String,
@@ -198,6 +200,7 @@ impl<'a> Page<'a> {
             told: HashSet::new(),
             ground: Ground::Entry,
             taken: 0,
+            left: false,
             places: Vec::new(),
             address: None,
             text: String::new(),
@@ -225,6 +228,16 @@ impl<'a> Page<'a> {
     /// A line of words.
     fn words(&mut self, words: &str) {
         self.line(&format!("-- {words}"));
+    }
+
+    /// Lines are about the instruction at this address; behind a jump or a
+    /// return, it was come to from elsewhere.
+    fn arrive(&mut self, address: u64) {
+        if self.left && self.address != Some(address) {
+            self.ground = Ground::Coming(address);
+            self.left = false;
+        }
+        self.address = Some(address);
     }
 
     /// What happens between the records.
@@ -265,6 +278,9 @@ impl<'a> Page<'a> {
                 Ground::Behind(span.address)
             };
             self.taken = 0;
+            self.left = ["ret", "iret", "jmp"]
+                .iter()
+                .any(|name| record.text.starts_with(name));
         }
         self.places.clone_from(&span.stack);
     }
