@@ -176,6 +176,15 @@ fn a_jump_table_is_told() {
     }
 }
 
+/// No run comes to a case from behind the return above it.
+#[test]
+fn a_case_is_come_to_from_elsewhere() {
+    let quotient = lines_at("switch-gdb", "8049052").join("\n");
+    assert!(quotient.contains("in9 is st(1) on coming to 8049050"));
+    let text = stored("switch-gdb");
+    assert!(!text.contains("behind 8049048"), "{text}");
+}
+
 /// A callee that may take its arguments leaves no place counted from the
 /// stack pointer on entry, but for those of a frame.
 #[test]

@@ -1,7 +1,9 @@
 //! The command `x87rec` as a process.
 
+use std::ffi::OsStr;
 use std::fs::{self, File};
 use std::io::Write;
+use std::os::unix::ffi::OsStrExt;
 use std::path::PathBuf;
 use std::process::{Command, Output, Stdio};
 
@@ -82,6 +84,31 @@ fn wrong_arguments_end_with_2_and_write_nothing() {
     }
 }
 
+/// Bytes that are no text, as an argument.
+#[test]
+fn an_argument_may_be_any_bytes() {
+    let status = Command::new(env!("CARGO_BIN_EXE_x87rec"))
+        .arg(OsStr::from_bytes(b"\xff"))
+        .stderr(Stdio::null())
+        .status();
+    assert_eq!(status.expect("the command runs").code(), Some(2));
+}
+
+/// The counts are no part of the result.
+#[test]
+fn standard_error_may_be_full() {
+    let mut child = Command::new(env!("CARGO_BIN_EXE_x87rec"))
+        .stdin(Stdio::piped())
+        .stdout(Stdio::null())
+        .stderr(full())
+        .spawn()
+        .expect("the command runs");
+    let mut input = child.stdin.take().expect("a pipe");
+    input.write_all(FUNCTION.as_bytes()).expect("it is read");
+    drop(input);
+    assert_eq!(child.wait().expect("it ends").code(), Some(0));
+}
+
 #[test]
 fn records_go_to_standard_output_and_counts_to_standard_error() {
     let (status, out, err) = told(&["--path"], FUNCTION);
@@ -96,7 +123,13 @@ fn wrong_texts_end_with_1_and_the_notes_say_so() {
     let path = names.to_str().expect("a plain name");
     let way = ["--names", path, "--path", "--take", "99"];
     let function = ["--names", path, "--function", "g"];
-    let cases: [(&[&str], &str, &str); 6] = [
+    let cases: [(&[&str], &str, &str); 8] = [
+        (&["--names", path], "", "no instruction"),
+        (
+            &["--names", path],
+            "\nf.o: file format elf32-i386\n",
+            "no instruction",
+        ),
         (&["--names", path], "no disassembly\n", "line 1: "),
         (&["--names", path], "10 fld1\n11 fld %st(0)\n", "AT&T"),
         (&["--names", path], "10 fld1\n11 fadd st,\n", "line 2: "),

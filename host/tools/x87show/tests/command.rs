@@ -1,7 +1,9 @@
 //! The command `x87show` as a process.
 
+use std::ffi::OsStr;
 use std::fs::{self, File};
 use std::io::Write;
+use std::os::unix::ffi::OsStrExt;
 use std::path::PathBuf;
 use std::process::{Command, Output, Stdio};
 
@@ -92,6 +94,16 @@ fn wrong_arguments_end_with_2() {
         assert_eq!((status, out.as_str()), (Some(2), ""), "{words:?}");
         assert!(err.contains("--help"), "{err}");
     }
+}
+
+/// Bytes that are no text, as an argument.
+#[test]
+fn an_argument_may_be_any_bytes() {
+    let status = Command::new(env!("CARGO_BIN_EXE_x87show"))
+        .arg(OsStr::from_bytes(b"\xff"))
+        .stderr(Stdio::null())
+        .status();
+    assert_eq!(status.expect("the command runs").code(), Some(2));
 }
 
 #[test]
