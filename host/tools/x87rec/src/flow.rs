@@ -6,7 +6,8 @@ use std::ops::Bound::{Excluded, Unbounded};
 
 use crate::address::address;
 use crate::line::{Code, Line};
-use crate::machine::{Calls, Machine, Value};
+use crate::machine::{Calls, Machine};
+use crate::memory::Value;
 use crate::names::{RSP, register};
 use crate::path::Step;
 use crate::place::Version;
@@ -40,7 +41,7 @@ impl Callees {
                 function = Some(code.address);
             }
             if let Some(name) = before.symbol.clone() {
-                let other = names.get(&name).is_some();
+                let other = names.contains_key(&name);
                 names.insert(name, (!other).then_some(code.address));
             }
             if let Some(function) = function.filter(|_| code.is_return()) {

@@ -88,6 +88,7 @@ mod effects;
 mod flow;
 mod line;
 mod machine;
+mod memory;
 mod names;
 mod operand;
 mod passing;

@@ -2,33 +2,19 @@
 //! pointer is, which value each register has, what was stored of the
 //! control word, who wrote the flags.
 
-use std::collections::BTreeMap;
-
-use crate::address::{immediate, memory, width};
+use crate::address::{immediate, in_segment, memory, width};
 use crate::control::changed;
 use crate::effects::{self, FLAGS};
 use crate::line::Code;
+use crate::memory::{Memory, Value};
 use crate::names::{Part, RAX, RBP, RCX, RDI, RDX, REGISTERS, RSI, RSP, register};
 use crate::passing::passes;
 use crate::place::{Place, Term, Version, sum};
 use crate::word::Word;
 
-/// The most places of which something is known.
-const MOST_PLACES: usize = 32;
-
 /// Registers that a call may change, in 32-bit and in 64-bit code.
 const LOST_32: [usize; 3] = [RAX, RCX, RDX];
 const LOST_64: [usize; 9] = [RAX, RCX, RDX, RSI, RDI, 8, 9, 10, 11];
-
-/// What a register or a place of memory holds.
-#[derive(Debug, Clone, Copy, PartialEq, Eq)]
-pub enum Value {
-    /// An address on the stack, counted from a stack pointer.
-    Stack(Version, i64),
-    /// In its lower 16 bits, so much of a control word.
-    Word(Word),
-    Unknown,
-}
 
 /// Who wrote a flag last.
 #[derive(Debug, Clone, Copy, PartialEq, Eq)]
@@ -54,25 +40,13 @@ struct Register {
     version: Version,
 }
 
-/// What was stored, and what was crossed since that could have changed it
-/// if it pointed there.
-#[derive(Debug, Clone, Copy, PartialEq, Eq)]
-struct Stored {
-    bytes: i64,
-    value: Value,
-    crossed: Option<u64>,
-}
-
 /// What is known at a line.
 #[derive(Debug, Clone, PartialEq, Eq)]
 pub struct Machine {
     /// How often a way came to the line, this time included.
     pub visit: u32,
     registers: [Register; REGISTERS],
-    memory: BTreeMap<Place, Stored>,
-    /// Whether an address on the stack was handed out, so that any store
-    /// may go there.
-    escaped: bool,
+    memory: Memory,
     pub control: Word,
     /// Where the control word was last changed, or may have been.
     pub changed: Option<Change>,
@@ -103,8 +77,7 @@ impl Machine {
         Self {
             visit: 1,
             registers,
-            memory: BTreeMap::new(),
-            escaped: false,
+            memory: Memory::default(),
             control: Word::ENTRY,
             changed: None,
             flags: [Writer::Entry; FLAGS],
@@ -132,12 +105,7 @@ impl Machine {
                 };
             }
         }
-        self.memory.retain(|place, stored| {
-            let same = other.memory.get(place);
-            stored.crossed = stored.crossed.or(same.and_then(|same| same.crossed));
-            same.is_some_and(|same| (same.bytes, same.value) == (stored.bytes, stored.value))
-        });
-        self.escaped |= other.escaped;
+        self.memory.meet(&other.memory);
         if self.control != other.control {
             self.control = self.control.meet(other.control);
             self.changed = Some(Change::Meeting(address));
@@ -257,10 +225,16 @@ impl Machine {
 
     fn push(&mut self, code: &Code, bytes: i64) {
         let value = self.operand(code, 0);
-        self.escaped |= matches!(value, Value::Stack(..));
-        self.move_pointer(-bytes, code.address);
+        self.push_value(value, bytes, code.address);
+    }
+
+    fn push_value(&mut self, value: Value, bytes: i64, at: u64) {
+        if value.is_on_stack() {
+            self.memory.hand_out();
+        }
+        self.move_pointer(-bytes, at);
         let top = self.top();
-        self.write(top, bytes, value, code.address);
+        self.memory.write(top, bytes, value, at);
     }
 
     /// An address that is counted from the stack pointer is that behind
@@ -278,7 +252,7 @@ impl Machine {
 
     fn leave(&mut self, at: u64, bytes: i64) {
         let frame = self.registers[RBP].value;
-        if let Value::Stack(..) = frame {
+        if frame.is_on_stack() {
             self.registers[RSP].value = frame;
             return self.take(RBP, at, bytes);
         }
@@ -290,7 +264,7 @@ impl Machine {
     fn take(&mut self, number: usize, at: u64, bytes: i64) {
         let value = self
             .top()
-            .map_or(Value::Unknown, |top| self.read(&top, bytes));
+            .map_or(Value::Unknown, |top| self.memory.read(&top, bytes));
         self.move_pointer(bytes, at);
         self.set(number, value, at);
     }
@@ -318,7 +292,7 @@ impl Machine {
     /// A stack pointer that is not known is one of its own.
     fn settle(&mut self, at: u64) {
         let pointer = &mut self.registers[RSP];
-        if !matches!(pointer.value, Value::Stack(..)) {
+        if !pointer.value.is_on_stack() {
             pointer.value = Value::Stack(Version::Behind(at, self.visit), 0);
         }
     }
@@ -330,7 +304,7 @@ impl Machine {
         let at = code.address;
         if code.is_call_to_next() {
             // It is no call: it pushes its own address, for a `pop`.
-            return self.push(code, calls.word());
+            return self.push_value(Value::Unknown, calls.word(), at);
         }
         let lost: &[usize] = if calls.word() == 8 {
             &LOST_64
@@ -340,16 +314,7 @@ impl Machine {
         for &number in lost {
             self.set(number, Value::Unknown, at);
         }
-        let pointer = self.pointer();
-        let escaped = self.escaped;
-        self.memory.retain(|place, stored| {
-            stored.crossed = stored.crossed.or(Some(at));
-            let below = match (pointer, place.stack) {
-                (Value::Stack(base, offset), Some(stack)) => base != stack || place.offset < offset,
-                _ => true,
-            };
-            !escaped && place.is_on_stack() && !below
-        });
+        self.memory.call(self.pointer(), at);
         match calls.cleaned(code) {
             Some(bytes) => self.move_pointer(bytes, at),
             None => {
@@ -371,15 +336,15 @@ impl Machine {
         let text = operand.as_deref().and_then(memory);
         let place = text.as_ref().and_then(|text| self.place(text, code));
         if code.name == "fldcw" {
-            let value = place.map_or(Value::Unknown, |place| self.read(&place, 2));
-            self.load_control(word_of(value), code.address);
+            let value = place.map_or(Value::Unknown, |place| self.memory.read(&place, 2));
+            self.load_control(value.word(), code.address);
         } else if effects::stores(code) && operand.is_some_and(|text| !text.starts_with("st")) {
             let value = match code.name.as_str() {
                 "fnstcw" | "fstcw" => Value::Word(self.control),
                 _ => Value::Unknown,
             };
             let bytes = text.map_or(0, |text| bytes(&text));
-            self.write(place, bytes, value, code.address);
+            self.memory.write(place, bytes, value, code.address);
         }
     }
 
@@ -387,14 +352,16 @@ impl Machine {
     fn moves(&mut self, code: &Code) {
         let value = match (code.name.as_str(), code.operands.get(1)) {
             ("lea", Some(text)) => self.effective(text, code),
-            ("movzx", _) => half(self.operand(code, 1)),
+            ("movzx", _) => self.operand(code, 1).half(),
             _ => self.operand(code, 1),
         };
         let to_frame = matches!(
             code.operands.first().and_then(|t| register(t)),
             Some((RBP | RSP, _))
         );
-        self.escaped |= matches!(value, Value::Stack(..)) && !to_frame;
+        if value.is_on_stack() && !to_frame {
+            self.memory.hand_out();
+        }
         self.put(code, 0, value);
     }
 
@@ -429,7 +396,7 @@ impl Machine {
             None => (bits, u16::MAX),
         };
         let old = self.whole(code);
-        let word = word_of(old);
+        let word = old.word();
         let all = code.operands.first().is_some_and(|text| is_whole(text));
         let value = match (code.name.as_str(), old) {
             ("add", Value::Stack(base, offset)) if all => {
@@ -466,19 +433,7 @@ impl Machine {
     /// whether it is the lower or the upper one.
     fn holding(&self, code: &Code) -> Option<(Place, u32)> {
         let text = memory(code.operands.first()?)?;
-        let place = self.place(&text, code)?;
-        let below = Place {
-            offset: place.offset.wrapping_sub(1),
-            ..place.clone()
-        };
-        let is_word = |place: &Place| {
-            let stored = self.memory.get(place);
-            stored.is_some_and(|stored| matches!(stored.value, Value::Word(_)))
-        };
-        if is_word(&place) {
-            return Some((place, 0));
-        }
-        is_word(&below).then_some((below, 1))
+        self.memory.holding(&self.place(&text, code)?)
     }
 
     /// The value of all that the first operand is a part of.
@@ -489,10 +444,8 @@ impl Machine {
         match register(&text.to_ascii_lowercase()) {
             Some((number, _)) => self.registers[number].value,
             None if width(text) == 8 => {
-                let held = self
-                    .holding(code)
-                    .and_then(|(place, _)| self.memory.get(&place));
-                held.map_or(Value::Unknown, |stored| stored.value)
+                let held = self.holding(code);
+                held.map_or(Value::Unknown, |(place, _)| self.memory.read(&place, 2))
             }
             None => self.operand(code, 0),
         }
@@ -506,8 +459,7 @@ impl Machine {
         }
         match self.holding(code) {
             Some((place, _)) if width(text) == 8 => {
-                let stored = self.memory.get_mut(&place).expect("it is held");
-                stored.value = value;
+                self.memory.change(&place, value);
             }
             _ => self.put(code, 0, value),
         }
@@ -521,7 +473,7 @@ impl Machine {
         let lower = text.to_ascii_lowercase();
         match register(&lower) {
             Some((number, Part::Whole)) => return self.registers[number].value,
-            Some((number, Part::Word)) => return half(self.registers[number].value),
+            Some((number, Part::Word)) => return self.registers[number].value.half(),
             Some(_) => return Value::Unknown,
             None => {}
         }
@@ -533,22 +485,9 @@ impl Machine {
             return Value::Unknown;
         };
         let place = self.place(&text, code);
-        place.map_or(Value::Unknown, |place| self.read(&place, bytes(&text)))
-    }
-
-    /// What is read of a place: an address whole, of a word its two lower
-    /// bytes.
-    fn read(&self, place: &Place, bytes: i64) -> Value {
-        match self.memory.get(place) {
-            Some(stored) => match stored.value {
-                Value::Word(word) if bytes >= 2 && stored.bytes >= 2 => {
-                    Value::Word(word.across(stored.crossed))
-                }
-                Value::Stack(..) if bytes == stored.bytes && bytes >= 4 => stored.value,
-                _ => Value::Unknown,
-            },
-            None => Value::Unknown,
-        }
+        place.map_or(Value::Unknown, |place| {
+            self.memory.read(&place, bytes(&text))
+        })
     }
 
     /// Write an operand.
@@ -564,9 +503,9 @@ impl Machine {
         }
         if let Some(text) = memory(text) {
             let place = self.place(&text, code);
-            self.write(place, bytes(&text), value, at);
-        } else if crate::address::in_segment(text) {
-            self.write(None, 0, value, at);
+            self.memory.write(place, bytes(&text), value, at);
+        } else if in_segment(text) {
+            self.memory.write(None, 0, value, at);
         }
     }
 
@@ -585,7 +524,7 @@ impl Machine {
             Part::High => (0xff00, 8),
             _ => (u16::MAX, 0),
         };
-        let old = word_of(self.registers[number].value);
+        let old = self.registers[number].value.word();
         let whole = match value {
             Value::Word(word) if mask == u16::MAX => Value::Word(word),
             Value::Word(word) => match word.is_constant() {
@@ -595,45 +534,6 @@ impl Machine {
             _ => Value::Unknown,
         };
         self.set(number, whole, at);
-    }
-
-    /// Write memory; without a place it may be any.
-    fn write(&mut self, place: Option<Place>, bytes: i64, value: Value, at: u64) {
-        let escaped = self.escaped;
-        self.memory.retain(|old, stored| {
-            let Some(place) = &place else {
-                stored.crossed = stored.crossed.or(Some(at));
-                return old.is_on_stack() && !escaped;
-            };
-            if place.is_beside(old) {
-                return old.offset.saturating_add(stored.bytes) <= place.offset
-                    || place.offset.saturating_add(bytes) <= old.offset;
-            }
-            let apart = place.stack.is_some() != old.stack.is_some() && !escaped;
-            stored.crossed = stored.crossed.or(Some(at));
-            apart
-        });
-        if let Some(place) = place.filter(|_| value != Value::Unknown) {
-            if self.memory.len() >= MOST_PLACES {
-                self.forget_places();
-            }
-            let stored = Stored {
-                bytes,
-                value,
-                crossed: None,
-            };
-            self.memory.insert(place, stored);
-        }
-    }
-
-    /// Forget all places but those of control words; where these are too
-    /// many, all.
-    fn forget_places(&mut self) {
-        let is_control = |value| matches!(value, Value::Word(word) if word.is_constant().is_none());
-        self.memory.retain(|_, stored| is_control(stored.value));
-        if self.memory.len() >= MOST_PLACES {
-            self.memory.clear();
-        }
     }
 
     /// An instruction of which no more is known than what it writes.
@@ -648,7 +548,7 @@ impl Machine {
             self.set(number, Value::Unknown, code.address);
         }
         if effects::writes_anywhere(code) {
-            self.write(None, 0, Value::Unknown, code.address);
+            self.memory.write(None, 0, Value::Unknown, code.address);
         }
     }
 
@@ -665,7 +565,8 @@ impl Machine {
                 scale: 1,
             });
         }
-        self.write(place, bytes(&text), Value::Unknown, code.address);
+        self.memory
+            .write(place, bytes(&text), Value::Unknown, code.address);
     }
 
     /// An instruction of which nothing is known.
@@ -673,27 +574,11 @@ impl Machine {
         for number in 0..REGISTERS {
             self.set(number, Value::Unknown, code.address);
         }
-        self.memory.clear();
+        self.memory.forget();
         self.flags = [Writer::At(code.address); FLAGS];
         self.status = Writer::At(code.address);
         self.disturbed = false;
         self.load_control(Word::UNKNOWN, code.address);
-    }
-}
-
-/// The lower half of a value.
-fn half(value: Value) -> Value {
-    match value {
-        Value::Word(word) => Value::Word(word),
-        _ => Value::Unknown,
-    }
-}
-
-/// So much of a control word as a value is.
-fn word_of(value: Value) -> Word {
-    match value {
-        Value::Word(word) => word,
-        _ => Word::UNKNOWN,
     }
 }
 

@@ -345,42 +345,8 @@ impl<'a> Work<'a> {
 
     /// The translation, with these words on what was followed.
     pub fn done(mut self, followed: &str) -> Translated {
-        let pointer = self.pointer();
-        let mut head = vec![if self.options.assume_reset {
-            "assume-reset: every rounding is shown as to nearest even with extended precision, \
-             whatever the code loads into the control word"
-                .to_owned()
-        } else {
-            "assumed: on entry the control word rounds to nearest even with extended precision \
-             (64 bits); with another word no formula here need hold"
-                .to_owned()
-        }];
-        head.push(followed.to_owned());
-        let addresses = self.numbering.texts(pointer);
-        if self.numbering.names_entry() {
-            head.push(format!(
-                "{pointer}0 is the stack pointer on entry, where the return address is"
-            ));
-        }
-        if addresses.iter().any(|text| text.contains('@')) {
-            head.push(
-                "a register @ an address is as the instruction there left it, #2 at its second \
-                 turn; @@ as it is on coming there"
-                    .to_owned(),
-            );
-        }
-        if self.called {
-            head.push(
-                "calls are taken to keep what the calling convention keeps: the control word, their \
-                 caller's places on the stack, and "
-                    .to_owned()
-                    + if pointer == "rsp" {
-                        "rbx, rbp, r12 to r15"
-                    } else {
-                        "ebx, ebp, esi, edi"
-                    },
-            );
-        }
+        let addresses = self.numbering.texts(self.pointer());
+        let head = self.head(followed, &addresses);
         self.done.notes = Notes {
             failed: None,
             head,
@@ -388,6 +354,40 @@ impl<'a> Work<'a> {
             events: self.done.notes.events,
         };
         self.done
+    }
+
+    /// What holds for the whole text.
+    fn head(&self, followed: &str, addresses: &[String]) -> Vec<String> {
+        let pointer = self.pointer();
+        let word = if self.options.assume_reset {
+            "assume-reset: every rounding is shown as to nearest even with extended precision, \
+             whatever the code loads into the control word"
+        } else {
+            "assumed: on entry the control word rounds to nearest even with extended precision \
+             (64 bits); with another word no formula here need hold"
+        };
+        let mut head = vec![word.to_owned(), followed.to_owned()];
+        if self.numbering.names_entry() {
+            head.push(format!(
+                "{pointer}0 is the stack pointer on entry, where the return address is"
+            ));
+        }
+        if addresses.iter().any(|text| text.contains('@')) {
+            let words = "a register @ an address is as the instruction there left it, #2 at its \
+                         second turn; @@ as it is on coming there";
+            head.push(words.to_owned());
+        }
+        if self.called {
+            let kept = match pointer {
+                "rsp" => "rbx, rbp, r12 to r15",
+                _ => "ebx, ebp, esi, edi",
+            };
+            head.push(format!(
+                "calls are taken to keep what the calling convention keeps: the control word, \
+                 their caller's places on the stack, and {kept}"
+            ));
+        }
+        head
     }
 }
 

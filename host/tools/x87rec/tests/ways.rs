@@ -174,7 +174,7 @@ fn the_writer_of_the_status_word_is_told() {
     }
     let aside = format!("{compare}, C1, TOP and exceptions aside");
     for between in ["fstp st(0)", "fcomi st,st(1)", "fld1", "fadd st,st(1)"] {
-        assert_eq!(told(between), [aside.clone()], "{between}");
+        assert_eq!(told(between), [aside.as_str()], "{between}");
     }
     assert_eq!(told("fprem"), ["4 fsw as fprem at 2 left it: not modelled"]);
     assert_eq!(told("ftst"), ["4 fsw as ftst at 2 left it: not modelled"]);
