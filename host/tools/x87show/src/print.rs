@@ -251,8 +251,11 @@ impl<'a> Page<'a> {
             }
             What::Remark(words) => self.words(words),
             What::Stack(words) => {
-                self.words(words);
                 let places = self.places.clone();
+                for &node in &places {
+                    self.introduce(of(self.built, node));
+                }
+                self.words(words);
                 self.stack(&places);
                 self.below();
             }
