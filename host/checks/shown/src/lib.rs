@@ -24,7 +24,7 @@ const fn case(text: &'static str, words: &'static str, shown: &'static str) -> C
 }
 
 /// All cases.
-pub const CASES: [Case; 19] = [
+pub const CASES: [Case; 21] = [
     case("truncation.objdump", "--path", "truncation"),
     case("integer-flags.objdump", "--path", "integer-flags"),
     case("loop.objdump", "--path", "loop"),
@@ -44,7 +44,13 @@ pub const CASES: [Case; 19] = [
     case("switch.gdb", "", "switch-gdb"),
     case("switch.objdump", "--path --function chosen", "switch"),
     case("stdcall.objdump", "--path --function outer", "stdcall"),
+    case(
+        "stdcall.objdump",
+        "--path --function caller",
+        "stdcall-told",
+    ),
     case("framed.objdump", "--path", "framed"),
+    case("wide.objdump", "--path", "wide"),
     case(
         "control-words.objdump",
         "--path --function to_int",

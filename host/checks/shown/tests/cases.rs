@@ -197,6 +197,24 @@ fn a_stdcall_callee_leaves_no_false_place() {
     assert!(text.contains("33: s6 := [esp0-0x1c], 64 bits"), "{text}");
 }
 
+/// A callee of the text tells by its `ret 0xc` what it takes: what is
+/// stored behind the first call is loaded behind the second.
+#[test]
+fn a_callee_of_the_text_tells_what_it_takes() {
+    let text = stored("stdcall-told");
+    assert!(text.contains("28: [esp0-0x14] := f64(in0)"), "{text}");
+    assert!(text.contains("41: s4 := [esp0-0x14], 64 bits"), "{text}");
+    assert!(text.contains("48: st(0) = s4 - in1 * s3"), "{text}");
+}
+
+/// Code of 64 bits: entries of the stack have eight bytes.
+#[test]
+fn entries_of_the_stack_may_have_eight_bytes() {
+    assert_eq!(lines_at("wide", "18")[0], "s1 := [rsp0+0x8], 80 bits");
+    let result = "st(0) = in1 * number(m0, in0) - number(s1, in2)".to_owned();
+    assert!(lines_at("wide", "1f").contains(&result));
+}
+
 /// With 53 bits no sum is shown as one of 64 bits; a store is exact
 /// enough to be shown.
 #[test]
