@@ -278,10 +278,9 @@ fn damaged_texts_are_refused_or_read() {
     let mut random = Random(0x5eed_0002);
     let mut read = 0;
     for _ in 0..400 {
-        let mut text = random.of(&TEXTS).to_owned();
-        for _ in 0..=random.below(2) {
-            text = damaged(&text, &mut random);
-        }
+        let whole = random.of(&TEXTS).to_owned();
+        let times = 1 + random.below(2);
+        let text = (0..times).fold(whole, |text, _| damaged(&text, &mut random));
         read += usize::from(holds(&text, &Options::default()));
         read += usize::from(holds(&text, &asked(&mut random)));
     }

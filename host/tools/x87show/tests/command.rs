@@ -143,13 +143,18 @@ fn a_first_step_that_failed_is_told() {
         assert_eq!((status, out.as_str()), (Some(1), ""), "{listing}");
         assert!(err.contains("x87rec failed: line 3: no such"), "{err}");
     }
+}
+
+/// Where there are no records, notes of an earlier run do not help.
+#[test]
+fn a_listing_of_no_records_is_no_empty_stack() {
     let old = file("old", &notes());
-    for listing in [NOTHING, ""] {
-        for words in [&["--names", old.as_str()][..], &[]] {
-            let (status, out, err) = told(words, listing);
-            assert_eq!((status, out.as_str()), (Some(1), ""), "{listing}");
-            assert!(err.contains("failed"), "{err}");
-        }
+    let with = ["--names", old.as_str()];
+    let cases: [(&[&str], &str); 4] = [(&with, NOTHING), (&with, ""), (&[], NOTHING), (&[], "")];
+    for (words, listing) in cases {
+        let (status, out, err) = told(words, listing);
+        assert_eq!((status, out.as_str()), (Some(1), ""), "{listing}");
+        assert!(err.contains("failed"), "{err}");
     }
 }
 
