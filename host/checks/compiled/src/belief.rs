@@ -288,7 +288,7 @@ impl<'a> Held<'a> {
         let Some(first) = words.find_map(hexadecimal) else {
             return false;
         };
-        let others = words.any(|word| word == "others");
+        let others = words.any(|word| word == "on");
         let stack = self.beside.run.arena.address + STACK;
         let mut visits = (0..at).filter(|&visit| {
             let ip = self.beside.before(visit).ip;

@@ -12,6 +12,7 @@
 //! | `head WORDS` | something that holds for the whole text |
 //! | `address NUMBER TEXT` | what an address number stands for, from 1 on |
 //! | `begin ADDRESS WORDS` | a function begins |
+//! | `arrive ADDRESS` | the instruction is also come to from elsewhere |
 //! | `remark ADDRESS WORDS` | something that happens at an instruction |
 //! | `stack ADDRESS WORDS` | the stack is shown here, and why |
 //! | `record ADDRESS BYTES` | a record, in hexadecimal digits |
@@ -56,6 +57,8 @@ pub struct Event {
 pub enum What {
     /// A function begins here.
     Begin(String),
+    /// It is also come to from elsewhere, and nothing is known of the stack.
+    Arrive,
     /// Words for the reader.
     Remark(String),
     /// The stack is shown, and why.
@@ -172,6 +175,7 @@ impl Notes {
 fn what(mark: &str, words: &str) -> Result<What, &'static str> {
     Ok(match mark {
         "begin" => What::Begin(words.to_owned()),
+        "arrive" => What::Arrive,
         "remark" => What::Remark(words.to_owned()),
         "stack" => What::Stack(words.to_owned()),
         "record" => What::Record(Record {
@@ -216,6 +220,7 @@ impl fmt::Display for Event {
         let address = self.address;
         match &self.what {
             What::Begin(words) => writeln!(f, "begin {address:x} {words}"),
+            What::Arrive => writeln!(f, "arrive {address:x}"),
             What::Remark(words) => writeln!(f, "remark {address:x} {words}"),
             What::Stack(words) => writeln!(f, "stack {address:x} {words}"),
             What::Record(record) => {
@@ -280,6 +285,7 @@ mod tests {
             addresses: vec!["[eax]".to_owned(), "[esp0+0x8]".to_owned()],
             events: vec![
                 event(0x10, What::Begin("f".to_owned())),
+                event(0x10, What::Arrive),
                 event(0x12, What::Remark("jne 28: taken".to_owned())),
                 event(0x14, What::Record(record)),
                 event(0x16, What::Stack("ret".to_owned())),

@@ -197,6 +197,11 @@ fn sets_pointer(code: &Code) -> bool {
     first && !moved || exchanged
 }
 
+/// Whether the stack pointer is that of an entry.
+fn is_back(machine: &Machine) -> bool {
+    matches!(machine.pointer(), Value::Stack(Version::Entry(_), 0))
+}
+
 /// How far below that of the entry the stack pointer is.
 fn missing(machine: &Machine, entry: u64) -> Option<i64> {
     match machine.pointer() {
@@ -245,11 +250,8 @@ pub fn through(lines: &[Line], callees: &mut Callees) -> BTreeMap<u64, Machine> 
         .filter(|(_, function)| restoring.contains(function));
     callees.doubtful.extend(hidden.map(|(call, _)| call));
     let first = text.solve(callees);
-    let wrong = functions(&|code| {
-        let entry = text.function(code.address);
-        let back = |machine: &Machine| missing(machine, entry) == Some(0);
-        code.is_return() && !first.get(&code.address).is_some_and(back)
-    });
+    let wrong =
+        functions(&|code| code.is_return() && !first.get(&code.address).is_some_and(is_back));
     let doubtful = untold
         .iter()
         .filter(|(_, function)| wrong.contains(function));
@@ -259,6 +261,12 @@ pub fn through(lines: &[Line], callees: &mut Callees) -> BTreeMap<u64, Machine> 
         return first;
     }
     text.solve(callees)
+}
+
+/// Whether a symbol names the part of a function that is seldom run and
+/// stands elsewhere.
+pub fn is_cold(symbol: &str) -> bool {
+    symbol.ends_with(".cold") || symbol.contains(".cold.")
 }
 
 /// The lines of a text by address, and where functions begin.
@@ -273,15 +281,14 @@ impl<'a> Text<'a> {
     fn of(lines: &'a [Line]) -> Self {
         let mut code = BTreeMap::new();
         let mut entries = BTreeSet::new();
-        let mut begins = true;
-        for line in lines {
-            if let Line::Code(line) = line {
-                if begins {
-                    entries.insert(line.address);
-                }
-                code.entry(line.address).or_insert(line);
+        for line in lines.iter().filter_map(Line::code) {
+            let before = &line.before;
+            let cold = before.symbol.as_deref().is_some_and(is_cold);
+            let first = code.is_empty() || before.broken || before.symbol.is_some();
+            if first && !cold {
+                entries.insert(line.address);
             }
-            begins = !matches!(line, Line::Code(_));
+            code.entry(line.address).or_insert(line);
         }
         let targets = call_targets(lines).into_iter();
         entries.extend(targets.filter(|target| code.contains_key(target)));
@@ -308,15 +315,11 @@ impl<'a> Text<'a> {
             .map(|(&next, _)| next)
     }
 
-    /// The lines that may come behind one, if the text tells them. A jump
-    /// to where another function begins is the end of this one.
+    /// The lines that may come behind one, if the text tells them.
     fn behind(&self, code: &Code) -> Vec<u64> {
         let mut all = Vec::new();
-        if !code.is_indirect() && (code.name.starts_with('j') || code.name.starts_with("loop")) {
-            let other = |target: &u64| {
-                self.entries.contains(target) && *target != self.function(code.address)
-            };
-            all.extend(code.target().filter(|target| !other(target)));
+        if code.name.starts_with('j') || code.name.starts_with("loop") {
+            all.extend(code.target());
         }
         if !code.is_return() && code.name != "jmp" {
             all.extend(self.next(code.address));
@@ -337,14 +340,15 @@ impl<'a> Text<'a> {
         lines.map(|(&line, _)| line)
     }
 
-    /// What is known before each line. Lines that no line leads to are
-    /// taken as entries, and lead to no line that others lead to.
+    /// What is known before each line. Lines that no line leads to are come
+    /// to from where the text does not tell, and lead to no line that
+    /// others lead to.
     fn solve(&self, callees: &Callees) -> BTreeMap<u64, Machine> {
         let mut solver = Solver {
             text: self,
             callees,
             ahead: self.ahead(),
-            entries: self.entries.clone(),
+            arrivals: BTreeSet::new(),
             before: BTreeMap::new(),
             after: BTreeMap::new(),
             visits: BTreeMap::new(),
@@ -355,7 +359,7 @@ impl<'a> Text<'a> {
         solver.closed = solver.before.keys().copied().collect();
         for &line in self.code.keys() {
             if !solver.before.contains_key(&line) {
-                solver.entries.insert(line);
+                solver.arrivals.insert(line);
                 solver.run(BTreeSet::from([line]));
             }
         }
@@ -384,7 +388,8 @@ struct Solver<'a> {
     text: &'a Text<'a>,
     callees: &'a Callees,
     ahead: BTreeMap<u64, Vec<u64>>,
-    entries: BTreeSet<u64>,
+    /// Lines that no line leads to.
+    arrivals: BTreeSet<u64>,
     before: BTreeMap<u64, Machine>,
     after: BTreeMap<u64, Machine>,
     visits: BTreeMap<u64, u32>,
@@ -418,6 +423,15 @@ impl Solver<'_> {
         }
     }
 
+    /// Whether a jump goes to where another function begins, with the stack
+    /// pointer of its own entry: then it is that function's caller's.
+    fn is_tail_call(&self, jump: u64, line: u64) -> bool {
+        let goes = self.text.code[&jump].target() == Some(line);
+        let elsewhere = self.text.function(jump) != self.text.function(line);
+        let back = self.after.get(&jump).is_some_and(is_back);
+        goes && elsewhere && self.text.entries.contains(&line) && back
+    }
+
     /// Join what is known behind a jump whose target is not told to that
     /// of the others of its function; the lines for which less is known
     /// then.
@@ -449,9 +463,14 @@ impl Solver<'_> {
         let visits = self.visits.entry(line).or_default();
         *visits += 1;
         let old = self.before.get(&line).filter(|_| *visits > MANY);
-        let entry = self.entries.contains(&line).then(|| Machine::entry(line));
+        let entry = self.text.entries.contains(&line);
+        let entry = entry.then(|| Machine::entry(line));
+        let arrival = self.arrivals.contains(&line);
+        let arrival = arrival.then(|| Machine::arrival(line));
+        let entry = entry.or(arrival);
         let ahead = self.ahead.get(&line).into_iter().flatten();
-        let ways = ahead.filter_map(|ahead| self.after.get(ahead)).cloned();
+        let ways = ahead.filter(|ahead| !self.is_tail_call(**ahead, line));
+        let ways = ways.filter_map(|ahead| self.after.get(ahead)).cloned();
         let joint = self.joints.get(&self.text.function(line));
         let joint = joint
             .filter(|(_, first)| *first <= line)
@@ -461,7 +480,7 @@ impl Solver<'_> {
             .chain(ways)
             .chain(joint)
             .chain(old.cloned());
-        let mut machine = ways.next().unwrap_or_else(|| Machine::entry(line));
+        let mut machine = ways.next().unwrap_or_else(|| Machine::arrival(line));
         for way in ways {
             machine.meet(&way, line);
         }

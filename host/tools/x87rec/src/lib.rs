@@ -111,7 +111,7 @@ pub use passing::passes;
 pub use path::Take;
 use path::Way;
 pub use sleetgate::MOST_BYTES;
-use work::Work;
+use work::{From, Work};
 
 /// What is asked for.
 #[derive(Debug, Clone, Default)]
@@ -207,11 +207,12 @@ pub fn translate(text: &str, options: &Options) -> Result<Translated, Wrong> {
     }
     let (word, apart) = (stack_word(&all), twice(&all).is_none());
     let told = apart.then(|| Callees::of(&all, word));
-    let targets: BTreeSet<u64> = all
-        .iter()
-        .filter_map(Line::code)
-        .filter_map(line::Code::target)
-        .collect();
+    let code = all.iter().filter_map(Line::code);
+    let (calls, jumps): (Vec<&line::Code>, Vec<_>) = code.partition(|code| code.is_call());
+    let targets = Targets {
+        calls: calls.into_iter().filter_map(line::Code::target).collect(),
+        jumps: jumps.into_iter().filter_map(line::Code::target).collect(),
+    };
     let lines = match &options.function {
         Some(function) => wanted::function(all, function)?,
         None => all,
@@ -233,6 +234,25 @@ pub fn translate(text: &str, options: &Options) -> Result<Translated, Wrong> {
             one_way(&way, &mut callees, options)
         }
         None => whole(&lines, &targets, &mut callees, options),
+    }
+}
+
+/// Where the calls and the jumps of a text go.
+struct Targets {
+    calls: BTreeSet<u64>,
+    jumps: BTreeSet<u64>,
+}
+
+impl Targets {
+    /// From where a line is come to, besides the one above it.
+    fn from(&self, address: u64) -> From {
+        if self.jumps.contains(&address) {
+            From::Jump
+        } else if self.calls.contains(&address) {
+            From::Call
+        } else {
+            From::Above
+        }
     }
 }
 
@@ -273,7 +293,7 @@ fn one_way(way: &Way, callees: &mut Callees, options: &Options) -> Result<Transl
 /// All lines of a text in their order.
 fn whole(
     lines: &[Line],
-    targets: &BTreeSet<u64>,
+    targets: &Targets,
     callees: &mut Callees,
     options: &Options,
 ) -> Result<Translated, Wrong> {
@@ -282,8 +302,8 @@ fn whole(
     let code = code.map(|code| (code, &machines[&code.address]));
     let mut work = Work::new(options, callees, code);
     for code in lines.iter().filter_map(Line::code) {
-        let entered = targets.contains(&code.address);
-        work.line(code, &machines[&code.address], entered)?;
+        let from = targets.from(code.address);
+        work.line(code, &machines[&code.address], from)?;
     }
     work.off(lines.iter().rev().find_map(Line::code));
     Ok(work.done("all lines in their order: a conditional jump is passed over as not taken"))

@@ -41,6 +41,8 @@ pub struct Code {
     pub relocation: Option<Relocation>,
     /// What stands before it.
     pub before: Before,
+    /// Whether the text is that of a linked file.
+    pub linked: bool,
 }
 
 /// What stands between an instruction and the one above it.
@@ -62,6 +64,9 @@ pub struct Relocation {
     /// The symbol, with a number added or subtracted where there is one.
     pub symbol: String,
 }
+
+/// No linked code and no data stands below this address.
+pub const LINKED: u64 = 0x1000;
 
 /// Words that objdump writes before a name.
 const PREFIXES: [&str; 20] = [
@@ -99,7 +104,23 @@ pub fn all(text: &str) -> Result<Vec<Line>, Wrong> {
             }
         }
     }
+    mark_linked(&mut lines);
     Ok(lines)
+}
+
+/// The code of a file that is not linked begins at zero.
+fn mark_linked(lines: &mut [Line]) {
+    let lowest = lines
+        .iter()
+        .filter_map(Line::code)
+        .map(|code| code.address)
+        .min();
+    let linked = lowest.is_some_and(|lowest| lowest >= LINKED);
+    for line in lines {
+        if let Line::Code(code) = line {
+            code.linked = linked;
+        }
+    }
 }
 
 /// Tell the last code line which address follows on it.
@@ -164,8 +185,8 @@ fn addressed(line: &str) -> Option<(u64, &str)> {
     let address = hexadecimal(address)?;
     let behind = rest.trim_start();
     let behind = match behind.strip_prefix('<') {
-        Some(name) => name.split_once('>')?.1,
-        None => behind,
+        Some(name) if name.contains(">:") => name.rsplit_once(">:")?.1,
+        _ => behind,
     };
     Some((address, behind.trim_start_matches(':')))
 }
@@ -222,7 +243,7 @@ fn code(line: usize, address: u64, text: &str) -> Result<Code, String> {
         }
         prefixes.push(word);
     };
-    let is_name = name.starts_with(|c: char| c.is_ascii_alphabetic() || c == '.' || c == '(');
+    let is_name = name.starts_with(|c: char| c.is_ascii_alphabetic() || ".(<".contains(c));
     if !is_name || name.len() > sleetgate::TEXT || !name.is_ascii() {
         return Err(format!("`{name}` is no name of an instruction"));
     }
@@ -236,6 +257,7 @@ fn code(line: usize, address: u64, text: &str) -> Result<Code, String> {
         comment: comment.split_whitespace().next().and_then(hexadecimal),
         relocation: None,
         before: Before::default(),
+        linked: false,
     })
 }
 
@@ -262,6 +284,15 @@ fn operands(text: &str) -> Result<Vec<String>, String> {
         return Err("an empty operand".to_owned());
     }
     Ok(all)
+}
+
+impl Relocation {
+    /// The symbol that a jump or a call goes to; 64-bit code counts from
+    /// the end of its four bytes.
+    fn target(&self) -> &str {
+        let symbol = self.symbol.as_str();
+        symbol.strip_suffix("-0x4").unwrap_or(symbol)
+    }
 }
 
 impl Code {
@@ -320,7 +351,7 @@ impl Code {
     /// The symbol that the linker or the disassembler gives a target.
     pub fn symbol(&self) -> Option<&str> {
         if let Some(relocation) = self.relocation.as_ref().filter(|_| self.direct().is_some()) {
-            return Some(&relocation.symbol);
+            return Some(relocation.target());
         }
         let (_, name) = self.operands.first()?.split_once('<')?;
         name.strip_suffix('>')
@@ -331,7 +362,7 @@ impl Code {
         let words = self.prefixes.iter().chain([&self.name]);
         let words: Vec<&str> = words.map(String::as_str).collect();
         let operands = match &self.relocation {
-            Some(relocation) if self.direct().is_some() => relocation.symbol.clone(),
+            Some(relocation) if self.direct().is_some() => relocation.target().to_owned(),
             _ => self.operands.join(", "),
         };
         format!("{} {operands}", words.join(" "))

@@ -86,6 +86,23 @@ impl Machine {
         }
     }
 
+    /// What is known on coming to a line from where the text does not tell.
+    pub fn arrival(address: u64) -> Self {
+        let mut machine = Self::entry(address);
+        for register in &mut machine.registers {
+            register.version = Version::At(address);
+        }
+        machine.registers[RSP].value = Value::Stack(Version::At(address), 0);
+        machine.flags = [Writer::Several; FLAGS];
+        machine.status = Writer::Several;
+        machine
+    }
+
+    /// Whether an address on the stack was handed out.
+    pub fn hands_out(&self) -> bool {
+        self.memory.is_handed_out()
+    }
+
     /// The stack pointer.
     pub fn pointer(&self) -> Value {
         self.registers[RSP].value
@@ -127,10 +144,11 @@ impl Machine {
             offset: address.offset,
         };
         for (name, scale) in address.registers {
-            let (number, _) = register(&name)?;
+            let (number, part) = register(&name)?;
             let Register { value, version } = self.registers[number];
+            let whole = part == Part::Whole && scale == 1;
             match value {
-                Value::Stack(base, offset) if scale == 1 && place.stack.is_none() => {
+                Value::Stack(base, offset) if whole && place.stack.is_none() => {
                     place.stack = Some(base);
                     place.offset = place.offset.wrapping_add(offset);
                 }
@@ -167,6 +185,9 @@ impl Machine {
                 .into_iter()
                 .collect();
         }
+        if effects::writes_anywhere(code) {
+            return self.string_store().into_iter().collect();
+        }
         let numbers = if effects::is_x87(&code.name) {
             vec![0; usize::from(effects::stores(code))]
         } else {
@@ -178,6 +199,23 @@ impl Machine {
         let texts = texts.filter_map(|text| memory(text));
         let place = |text: String| Some((self.place(&text, code)?, bytes(&text)));
         texts.filter_map(place).collect()
+    }
+
+    /// Where a string instruction stores, from the place that `rdi` has on
+    /// the stack on.
+    fn string_store(&self) -> Option<(Place, i64)> {
+        match self.registers[RDI].value {
+            Value::Stack(base, offset) => {
+                let place = Place {
+                    stack: Some(base),
+                    symbol: None,
+                    terms: Vec::new(),
+                    offset,
+                };
+                Some((place, i64::MAX))
+            }
+            _ => None,
+        }
     }
 
     /// What is known behind an instruction.
@@ -365,21 +403,40 @@ impl Machine {
         self.put(code, 0, value);
     }
 
-    /// The address that `lea` gives.
-    fn effective(&self, text: &str, code: &Code) -> Value {
-        let text = memory(text).map(|text| text.replace("+eiz*1", "").replace("+riz*1", ""));
+    /// The address that `lea` gives; one with an index on the stack is
+    /// handed out.
+    fn effective(&mut self, text: &str, code: &Code) -> Value {
+        let text = memory(text).map(|text| without_zero(&text));
         let place = text.and_then(|text| self.place(&text, code));
         match place {
             Some(place) if place.is_on_stack() => {
                 let base = place.stack.expect("it is on the stack");
                 Value::Stack(base, place.offset)
             }
+            Some(place) if place.stack.is_some() => {
+                self.memory.hand_out();
+                Value::Unknown
+            }
             _ => Value::Unknown,
+        }
+    }
+
+    /// An address on the stack that goes into what is computed is handed
+    /// out.
+    fn hand_out_sources(&mut self, code: &Code) {
+        let sources = code.operands.iter().skip(usize::from(code.name != "xchg"));
+        let on_stack = |text: &String| {
+            let register = register(&text.to_ascii_lowercase());
+            register.is_some_and(|(number, _)| self.registers[number].value.is_on_stack())
+        };
+        if sources.into_iter().any(on_stack) {
+            self.memory.hand_out();
         }
     }
 
     /// `add`, `sub`, `or`, `and` and `xor`.
     fn computes(&mut self, code: &Code) {
+        self.hand_out_sources(code);
         let same = code.operands.first() == code.operands.get(1);
         if code.name == "xor" && same {
             return self.put(code, 0, Value::Word(Word::constant(0)));
@@ -459,7 +516,7 @@ impl Machine {
         }
         match self.holding(code) {
             Some((place, _)) if width(text) == 8 => {
-                self.memory.change(&place, value);
+                self.memory.change(&place, value, code.address);
             }
             _ => self.put(code, 0, value),
         }
@@ -538,6 +595,9 @@ impl Machine {
 
     /// An instruction of which no more is known than what it writes.
     fn writes(&mut self, code: &Code) {
+        if !effects::operands(code).is_empty() {
+            self.hand_out_sources(code);
+        }
         for number in effects::operands(code) {
             self.put(code, number, Value::Unknown);
         }
@@ -589,6 +649,15 @@ fn met(mine: Writer, other: Writer) -> Writer {
 /// Whether an operand is all of a register.
 fn is_whole(text: &str) -> bool {
     matches!(register(&text.to_ascii_lowercase()), Some((_, Part::Whole)))
+}
+
+/// The text of an address without the register that is always zero.
+fn without_zero(text: &str) -> String {
+    let mut text: String = text.split_whitespace().collect();
+    for zero in ["+eiz*1", "+1*eiz", "+eiz", "+riz*1", "+1*riz", "+riz"] {
+        text = text.replace(zero, "");
+    }
+    text
 }
 
 /// The bytes that a push or a pop moves the stack pointer by.

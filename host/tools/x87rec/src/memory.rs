@@ -65,6 +65,11 @@ impl Memory {
         self.escaped = true;
     }
 
+    /// Whether an address on the stack was handed out.
+    pub fn is_handed_out(&self) -> bool {
+        self.escaped
+    }
+
     /// What is read of a place: an address whole, of a word its two lower
     /// bytes.
     pub fn read(&self, place: &Place, bytes: i64) -> Value {
@@ -82,19 +87,7 @@ impl Memory {
 
     /// Write a place; without one it may be any.
     pub fn write(&mut self, place: Option<Place>, bytes: i64, value: Value, at: u64) {
-        let escaped = self.escaped;
-        self.places.retain(|old, stored| {
-            if let Some(place) = place.as_ref().filter(|place| place.is_beside(old)) {
-                return old.offset.saturating_add(stored.bytes) <= place.offset
-                    || place.offset.saturating_add(bytes) <= old.offset;
-            }
-            stored.crossed = stored.crossed.or(Some(at));
-            let apart = match &place {
-                Some(place) => place.stack.is_some() != old.stack.is_some(),
-                None => old.is_on_stack(),
-            };
-            apart && !escaped
-        });
+        self.cross(place.as_ref(), bytes, at);
         if let Some(place) = place.filter(|_| value != Value::Unknown) {
             self.keep_few();
             let stored = Stored {
@@ -104,6 +97,24 @@ impl Memory {
             };
             self.places.insert(place, stored);
         }
+    }
+
+    /// Forget what a store may have changed, and note it where it should
+    /// not have.
+    fn cross(&mut self, place: Option<&Place>, bytes: i64, at: u64) {
+        let escaped = self.escaped;
+        self.places.retain(|old, stored| {
+            if let Some(place) = place.filter(|place| place.is_beside(old)) {
+                return old.offset.saturating_add(stored.bytes) <= place.offset
+                    || place.offset.saturating_add(bytes) <= old.offset;
+            }
+            stored.crossed = stored.crossed.or(Some(at));
+            let apart = match place {
+                Some(place) => place.stack.is_some() != old.stack.is_some(),
+                None => old.is_on_stack(),
+            };
+            apart && !escaped
+        });
     }
 
     /// Where there are too many places, forget all but those of control
@@ -166,10 +177,13 @@ impl Memory {
         is_word(&below).then_some((below, 1))
     }
 
-    /// Change the word at a place.
-    pub fn change(&mut self, place: &Place, value: Value) {
-        if let Some(stored) = self.places.get_mut(place) {
-            stored.value = value;
-        }
+    /// Change the word at a place, by a store of one byte of it.
+    pub fn change(&mut self, place: &Place, value: Value, at: u64) {
+        let Some(mut stored) = self.places.remove(place) else {
+            return;
+        };
+        self.cross(Some(place), stored.bytes, at);
+        stored.value = value;
+        self.places.insert(place.clone(), stored);
     }
 }

@@ -3,7 +3,7 @@
 use std::fmt;
 
 use crate::address::{Address, address};
-use crate::line::{Code, Relocation};
+use crate::line::{Code, LINKED, Relocation};
 
 /// Which value of a register is meant.
 #[derive(Debug, Clone, Copy, PartialEq, Eq, PartialOrd, Ord)]
@@ -36,9 +36,6 @@ pub struct Place {
     pub terms: Vec<Term>,
     pub offset: i64,
 }
-
-/// Absolute addresses below this are those of code that is not linked.
-const LINKED: i64 = 0x1000;
 
 impl Place {
     /// Whether this is one place on the stack.
@@ -114,7 +111,7 @@ pub fn sum(text: &str, code: &Code) -> Option<(Address, Option<String>)> {
             None => return Some((sum, own("rip"))),
         }
     }
-    if is_unlinked(&sum, text) {
+    if !code.linked && is_unlinked(&sum, text) {
         if text.contains("rip") {
             sum.offset = 0;
         }
@@ -128,9 +125,10 @@ pub fn sum(text: &str, code: &Code) -> Option<(Address, Option<String>)> {
 fn is_unlinked(sum: &Address, text: &str) -> bool {
     let scaled = sum.registers.iter().all(|(_, scale)| *scale != 1);
     let base = sum.registers.first().map(|(name, _)| name.as_str());
-    let needed = matches!(base, Some("ebp" | "rbp" | "r13"));
+    let needed = matches!(base, Some("ebp" | "esp" | "rbp" | "rsp" | "r13"));
     let written = text.replace(' ', "").ends_with("+0x0]") && !needed;
-    scaled && (0..LINKED).contains(&sum.offset) || written
+    let low = u64::try_from(sum.offset).is_ok_and(|offset| offset < LINKED);
+    scaled && low || written
 }
 
 /// The address that the linker makes.

@@ -1,6 +1,9 @@
 //! The function that is asked for.
 
+use std::collections::BTreeSet;
+
 use crate::Wrong;
+use crate::flow::is_cold;
 use crate::line::{Line, hexadecimal};
 
 /// How many names are told where one is not there.
@@ -31,10 +34,50 @@ pub fn function(lines: Vec<Line>, wanted: &str) -> Result<Vec<Line>, Wrong> {
             ));
         }
     };
-    let mut rest = lines.into_iter().skip(first);
-    let symbol = rest.next();
-    let body = rest.take_while(|line| !matches!(line, Line::Symbol(_)));
-    Ok(symbol.into_iter().chain(body).collect())
+    let own = match &lines[first] {
+        Line::Symbol(name) => plain(name).to_owned(),
+        _ => String::new(),
+    };
+    if is_cold(&own) {
+        return wrong(format!("`{own}` is a part of a function: take that"));
+    }
+    Ok(with_cold_part(lines, first, &own))
+}
+
+/// The lines of the symbol at a place, and those of the part of its
+/// function that stands elsewhere, if that has addresses of its own.
+fn with_cold_part(lines: Vec<Line>, first: usize, own: &str) -> Vec<Line> {
+    let mut symbol = None;
+    let part = |name: &str| {
+        let rest = name
+            .strip_prefix(own)
+            .and_then(|rest| rest.strip_prefix(".cold"));
+        rest.is_some_and(|rest| rest.is_empty() || rest.starts_with('.'))
+    };
+    let mut kept = (Vec::new(), Vec::new());
+    for (at, line) in lines.into_iter().enumerate() {
+        if let Line::Symbol(name) = &line {
+            symbol = if at == first {
+                Some(true)
+            } else {
+                part(name).then_some(false)
+            };
+        }
+        match symbol {
+            Some(true) => kept.0.push(line),
+            Some(false) => kept.1.push(line),
+            None => {}
+        }
+    }
+    let (mut body, cold) = kept;
+    let addresses = |lines: &[Line]| -> BTreeSet<u64> {
+        let code = lines.iter().filter_map(Line::code);
+        code.map(|code| code.address).collect()
+    };
+    if addresses(&body).is_disjoint(&addresses(&cold)) {
+        body.extend(cold);
+    }
+    body
 }
 
 /// The symbols of this name; one with a version counts where none is

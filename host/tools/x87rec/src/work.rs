@@ -1,6 +1,6 @@
 //! A translation under way.
 
-use std::collections::HashMap;
+use std::collections::{BTreeSet, HashMap};
 
 use notes::{Event, Notes, Record, What};
 use sleetgate::{Instruction, Operand, Place as Numbers, write_record};
@@ -31,6 +31,15 @@ const STATUS_COMPARES: [&str; 8] = [
 /// Instructions that store or load the control word alone.
 const CONTROL: [&str; 3] = ["fldcw", "fnstcw", "fstcw"];
 
+/// From where a line is come to, besides the one above it.
+#[derive(Debug, Clone, Copy, PartialEq, Eq)]
+pub enum From {
+    Above,
+    Call,
+    Jump,
+}
+
+/// The records so far.
 pub struct Work<'a> {
     done: Translated,
     /// Bytes of records so far.
@@ -41,6 +50,9 @@ pub struct Work<'a> {
     forgotten: bool,
     /// Whether a call was met.
     called: bool,
+    /// Address numbers that were stored to, and whether one is read again.
+    stored: BTreeSet<u32>,
+    reloads: bool,
     names: HashMap<u64, &'a str>,
     /// The places that x87 instructions name, and their bytes; those of
     /// control words are left out.
@@ -68,6 +80,8 @@ impl<'a> Work<'a> {
             numbering: Numbering::default(),
             forgotten: true,
             called: false,
+            stored: BTreeSet::new(),
+            reloads: false,
             names: code
                 .map(|(code, _)| (code.address, code.name.as_str()))
                 .collect(),
@@ -78,14 +92,18 @@ impl<'a> Work<'a> {
     }
 
     /// A line of the whole text.
-    pub fn line(&mut self, code: &Code, machine: &Machine, target: bool) -> Result<(), Wrong> {
+    pub fn line(&mut self, code: &Code, machine: &Machine, from: From) -> Result<(), Wrong> {
         let before = &code.before;
-        let entered = before.broken || before.symbol.is_some() || target;
+        let entered = before.broken || before.symbol.is_some() || from != From::Above;
+        let arrives = entered && self.forgotten;
         if entered && !self.forgotten {
             self.entry(code.address);
         }
         if let Some(name) = &before.symbol {
             self.event(code.address, What::Begin(name.clone()));
+        }
+        if arrives && from == From::Jump {
+            self.event(code.address, What::Arrive);
         }
         if code.is_return() {
             self.stack(code, "a return, with this stack");
@@ -160,9 +178,13 @@ impl<'a> Work<'a> {
     /// Hand an instruction over, as what it is under the control word.
     fn record(&mut self, code: &Code, machine: &Machine) -> Result<(), Wrong> {
         let mut insn = self.numbering.instruction(code, machine)?;
-        let writes = stores(code)
-            .then(|| insn.operands.first().and_then(number))
-            .flatten();
+        let place = insn.operands.first().and_then(number);
+        let writes = place.filter(|_| stores(code));
+        match (place, writes) {
+            (_, Some(place)) => drop(self.stored.insert(place)),
+            (Some(place), None) => self.reloads |= self.stored.contains(&place),
+            _ => {}
+        }
         let mut why = None;
         if !self.options.assume_reset {
             match verdict(code, machine.control, &self.since(machine.changed)) {
@@ -189,9 +211,12 @@ impl<'a> Work<'a> {
         self.forgotten = !insn.mnemonic.starts_with('f');
         self.fits(record.bytes.len())?;
         self.event(code.address, What::Record(record));
+        if !is_x87(&code.name) {
+            self.overwrites(code, machine);
+        }
         if code.is_call() {
             self.called = true;
-            self.doubt(code);
+            self.doubt(code, machine);
         }
         Ok(())
     }
@@ -277,8 +302,13 @@ impl<'a> Work<'a> {
         self.remark(code, &words);
     }
 
-    /// Say where the stack pointer is no longer known.
-    fn doubt(&mut self, code: &Code) {
+    /// Say what a call may do, and where the stack pointer is no longer
+    /// known.
+    fn doubt(&mut self, code: &Code, machine: &Machine) {
+        if machine.hands_out() {
+            let words = "may write to places on the stack: an address there was handed out";
+            self.remark(code, words);
+        }
         if self.callees.is_doubtful(code) {
             let pointer = self.pointer();
             let words = format!(
@@ -384,8 +414,13 @@ impl<'a> Work<'a> {
             };
             head.push(format!(
                 "calls are taken to keep what the calling convention keeps: the control word, \
-                 their caller's places on the stack, and {kept}"
+                 their caller's places on the stack whose address was not handed out, and {kept}"
             ));
+        }
+        if self.reloads {
+            let words = "a load takes what memory holds at that moment: since a store to the \
+                         same place, other pointers and calls may have written there";
+            head.push(words.to_owned());
         }
         head
     }

@@ -292,6 +292,19 @@ fn a_part_of_a_word_is_not_the_word() {
 }
 
 #[test]
+fn a_changed_byte_is_a_store_like_others() {
+    let lines = [
+        "lea ecx,[esp+edx*4]",
+        "fnstcw WORD PTR [ecx]",
+        "fnstcw WORD PTR [esp+0x4]",
+        "or BYTE PTR [ecx+0x1],0xc",
+        "fldcw WORD PTR [esp+0x4]",
+        "fadd st,st(1)",
+    ];
+    assert_eq!(named(&way(&lines)), ["?fadd"]);
+}
+
+#[test]
 fn what_a_word_was_kept_across_is_not_lost_when_it_is_moved() {
     let words = remarks(&way(&[
         "fnstcw WORD PTR [esp-0x2]",

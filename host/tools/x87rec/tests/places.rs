@@ -297,6 +297,8 @@ fn addresses_with_registers_may_not_be_linked_either() {
     assert_eq!(on_way(&lines), expected);
     let long = "0 fld QWORD PTR [rip+0x0]        # 6 <f+0x6>\n6 ret\n";
     assert_eq!(places(&records(long)), ["[unlinked of 0]"]);
+    let linked = "8049000 fld QWORD PTR [esi+0x0]\n8049003 ret\n";
+    assert_eq!(places(&records(linked)), ["[esi]"]);
 }
 
 #[test]
@@ -327,5 +329,84 @@ fn the_last_address_has_none_behind_it() {
     for options in [path(&[]), x87rec::Options::default()] {
         let told = with("ffffffffffffffff fld1\n", &options);
         assert_eq!(told.lines, 1);
+    }
+}
+
+#[test]
+fn a_cold_part_belongs_to_its_function() {
+    let text = "00000000 <f>:\n0 sub esp,0x1c\n3 jne 100 <f.cold>\n5 fld QWORD PTR [esp+0x20]\n\
+                9 add esp,0x1c\nc ret\n00000100 <f.cold>:\n100 fld QWORD PTR [esp+0x20]\n\
+                104 add esp,0x1c\n107 ret\n";
+    let one = "[esp0+0x4]";
+    assert_eq!(places(&records(text)), [one, one]);
+    let function = |name: &str| x87rec::Options {
+        function: Some(name.to_owned()),
+        ..path(&[])
+    };
+    let way = x87rec::Options {
+        path: path(&[3]).path,
+        ..function("f")
+    };
+    assert_eq!(places(&with(text, &way)), [one]);
+    let why = x87rec::translate(text, &function("f.cold")).map(|_| ());
+    let why = why.expect_err("it is no function").to_string();
+    assert_eq!(why, "`f.cold` is a part of a function: take that");
+}
+
+#[test]
+fn a_jump_with_a_moved_stack_pointer_is_no_tail_call() {
+    let text = "00000000 <f>:\n0 push eax\n2 jmp 10 <g>\n00000010 <g>:\n\
+                10 fld QWORD PTR [esp+0x8]\n12 ret\n";
+    assert_eq!(places(&records(text)), ["[esp@@10+0x8]"]);
+    let tail = text.replace("push eax", "nop");
+    assert_eq!(places(&records(&tail)), ["[esp0+0x8]"]);
+}
+
+#[test]
+fn a_line_that_nothing_leads_to_has_a_stack_pointer_of_its_own() {
+    let text = "0 sub esp,0x1c\n3 jmp 9\n5 fld QWORD PTR [esp+0x20]\n9 add esp,0x1c\nc ret\n";
+    assert_eq!(places(&records(text)), ["[esp@@5+0x20]"]);
+}
+
+#[test]
+fn half_a_register_is_no_stack_address() {
+    let lines = ["push ebp", "mov ebp,esp", "fld QWORD PTR [bp+0x8]"];
+    assert_eq!(on_way(&lines), ["[bp+0x8]"]);
+}
+
+#[test]
+fn what_a_call_may_write_is_told() {
+    let lines = [
+        "fstp QWORD PTR [esp-0x8]",
+        "lea eax,[esp-0x8]",
+        "call 900",
+        "fld QWORD PTR [esp-0x8]",
+        "ret",
+    ];
+    let told = with(&text(&lines), &path(&[]));
+    let words = "20 call 900: may write to places on the stack: an address there was handed out";
+    assert_eq!(remarks(&told)[0], words);
+    let head = "a load takes what memory holds at that moment";
+    assert!(told.notes.head.iter().any(|line| line.starts_with(head)));
+    let string = [
+        "lea edi,[esp+0x4]",
+        "rep stos DWORD PTR es:[edi],eax",
+        "fld DWORD PTR [esp+0x8]",
+    ];
+    let told = with(&text(&string), &path(&[]));
+    assert!(remarks(&told)[0].ends_with("writes to [esp0+0x8], which is not lifted"));
+    let vector = ["movlps QWORD PTR [esp+0x8],xmm0", "fld DWORD PTR [esp+0x8]"];
+    let told = with(&text(&vector), &path(&[]));
+    assert!(remarks(&told)[0].ends_with("writes to [esp0+0x8], which is not lifted"));
+}
+
+#[test]
+fn the_nop_that_moves_the_stack_pointer_to_itself_is_known() {
+    for nop in ["lea esp,[esp+eiz*1+0x0]", "lea esp, [esp + eiz]"] {
+        assert_eq!(
+            on_way(&[nop, "fld DWORD PTR [esp+0x4]"]),
+            ["[esp0+0x4]"],
+            "{nop}"
+        );
     }
 }

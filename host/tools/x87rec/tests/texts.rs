@@ -180,6 +180,16 @@ fn other_disassemblers_are_read() {
 }
 
 #[test]
+fn odd_lines_of_other_disassemblers_are_read() {
+    let template = records("0x10 <f<int>(double)>:\tfld1\n");
+    assert_eq!(named(&template), ["fld1"]);
+    assert_eq!(named(&records("10: 0f ff \t<unknown>\n")), ["<unknown>"]);
+    let range = "Dump of assembler code for function f:\nAddress range 0x10 to 0x12:\n\
+                 \x20  0x10 <+0>:\tfld1\nEnd of assembler dump.\n";
+    assert_eq!(named(&records(range)), ["fld1"]);
+}
+
+#[test]
 fn relocations_name_their_symbols() {
     let text = "00000000 <f>:\n\
                 \x20  0:\tdd 05 00 00 00 00    \tfld    QWORD PTR ds:0x0\n\

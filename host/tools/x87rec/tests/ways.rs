@@ -191,6 +191,22 @@ fn where_ways_meet_the_writer_is_not_known() {
 }
 
 #[test]
+fn a_line_that_is_come_to_from_below_is_told() {
+    let arrives = |text: &str| {
+        let events = records(text).notes.events.into_iter();
+        let at = events.filter(|event| event.what == What::Arrive);
+        at.map(|event| event.address).collect::<Vec<u64>>()
+    };
+    let head = "00000000 <f>:\n0 fld QWORD PTR [eax]\n2 add eax,0x8\n5 jne 0\n7 ret\n";
+    assert_eq!(arrives(head), [0]);
+    assert_eq!(arrives("0 call 90\n2 fchs\n4 jne 2\n6 ret\n"), [2]);
+    assert_eq!(
+        arrives("0 call 6\n2 ret\n6 fchs\n8 ret\n"),
+        Vec::<u64>::new()
+    );
+}
+
+#[test]
 fn in_a_whole_text_returns_and_jumps_are_told() {
     let text = "0 fld1\n2 je 8\n4 jmp eax\n8 fld1\na ret\nc fld1\n";
     let words = remarks(&records(text));

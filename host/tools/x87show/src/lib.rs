@@ -28,6 +28,10 @@
 //! are done on the pattern, are `abs(x)` and `-x`. Where the bits of a
 //! float are really meant, `bits(x)` says so.
 //!
+//! A number that is NaN or does not fit the integer that it is stored as
+//! has no formula: the processor stores the integer indefinite value, the
+//! lowest one, and SMT-LIB leaves it open.
+//!
 //! A listing does not say which instruction made which node, nor what the
 //! stack was in between. So the records in the notes are lifted again by
 //! the proved library, and the listing is taken only if it is that lift.

@@ -174,6 +174,8 @@ struct Page<'a> {
     /// Where the stack begins, and how many places below were taken.
     ground: Ground,
     taken: u64,
+    /// Instructions that were declined when they were last met.
+    declined: HashSet<u64>,
     /// Whether the last record went elsewhere.
     left: bool,
     /// The stack as it is now.
@@ -200,6 +202,7 @@ impl<'a> Page<'a> {
             told: HashSet::new(),
             ground: Ground::Entry,
             taken: 0,
+            declined: HashSet::new(),
             left: false,
             places: Vec::new(),
             address: None,
@@ -249,6 +252,10 @@ impl<'a> Page<'a> {
                     (self.ground, self.taken) = (Ground::Entry, 0);
                 }
             }
+            What::Arrive => {
+                self.words("also entered from elsewhere");
+                (self.ground, self.taken) = (Ground::Coming(event.address), 0);
+            }
             What::Remark(words) => self.words(words),
             What::Stack(words) => {
                 let places = self.places.clone();
@@ -274,7 +281,9 @@ impl<'a> Page<'a> {
         for &statement in &listing.statements[span.statements.clone()] {
             self.statement(statement, Some(record));
         }
+        self.declined.remove(&span.address);
         if span.declined {
+            self.declined.insert(span.address);
             self.ground = if record.text.is_empty() {
                 Ground::Coming(span.address)
             } else {
@@ -380,9 +389,19 @@ impl<'a> Page<'a> {
             }
             self.reads.next();
             let who = words.iter().find(|(of, _)| of == read.of);
-            let who = who.map_or(String::new(), |(_, words)| format!(", {words}"));
+            let who = who.map_or(String::new(), |(_, words)| self.who(words));
             self.line(&format!("{} := {}{who}", read.name, read.of));
         }
+    }
+
+    /// Who wrote what is read, and whether the lifter declined that.
+    fn who(&self, words: &str) -> String {
+        let wrote = |address: &u64| words.contains(&format!(" at {address:x} wrote it"));
+        let end = match self.declined.iter().any(wrote) {
+            true => ": not modelled",
+            false => "",
+        };
+        format!(", {words}{end}")
     }
 
     fn stack(&mut self, stack: &[u64]) {
