@@ -1,6 +1,7 @@
 //! The lines of a disassembly.
 
 use crate::Wrong;
+use crate::address::immediate;
 
 /// A line that counts.
 #[derive(Debug)]
@@ -337,6 +338,20 @@ impl Code {
     /// Whether nothing follows this: it stops the processor.
     pub fn is_stop(&self) -> bool {
         matches!(self.name.as_str(), "ud2" | "hlt")
+    }
+
+    /// Whether the linker will put in the constant, which stands last in
+    /// the instruction, and not an address before it.
+    pub fn is_constant_relocated(&self) -> bool {
+        let constant = self.operands.last().is_some_and(|text| {
+            let lower = text.to_ascii_lowercase();
+            immediate(&lower).is_some()
+        });
+        let last = self.relocation.as_ref().is_some_and(|relocation| {
+            let bytes = self.next.map(|next| next.wrapping_sub(relocation.place));
+            bytes.is_none_or(|bytes| bytes <= 4) || relocation.kind.ends_with("_64")
+        });
+        constant && last
     }
 
     /// Whether this is a jump that may go on below.

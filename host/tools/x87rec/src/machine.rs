@@ -442,7 +442,7 @@ impl Machine {
             return self.put(code, 0, Value::Word(Word::constant(0)));
         }
         let constant = code.operands.get(1).and_then(|text| immediate(text));
-        let Some(constant) = constant.filter(|_| code.relocation.is_none()) else {
+        let Some(constant) = constant.filter(|_| !code.is_constant_relocated()) else {
             return self.put(code, 0, Value::Unknown);
         };
         let signed = constant.cast_signed();
@@ -534,7 +534,7 @@ impl Machine {
             Some(_) => return Value::Unknown,
             None => {}
         }
-        if let Some(constant) = immediate(&lower).filter(|_| code.relocation.is_none()) {
+        if let Some(constant) = immediate(&lower).filter(|_| !code.is_constant_relocated()) {
             let bits = u16::try_from(constant & 0xffff).expect("16 bits");
             return Value::Word(Word::constant(bits));
         }

@@ -100,7 +100,11 @@ pub fn sum(text: &str, code: &Code) -> Option<(Address, Option<String>)> {
     let moved = code.prefixes.iter().any(|word| word.len() == 2);
     let mut sum = address(text).filter(|_| !moved)?;
     let is_rip = |(name, _): &(String, u64)| name == "rip";
-    if let Some(relocation) = &code.relocation {
+    if let Some(relocation) = code
+        .relocation
+        .as_ref()
+        .filter(|_| !code.is_constant_relocated())
+    {
         return Some(relocated(sum, relocation, code));
     }
     let own = |words: &str| Some(format!("{words} of {:x}", code.address));

@@ -289,6 +289,10 @@ fn a_part_of_a_word_is_not_the_word() {
     let relocated = "0 mov WORD PTR [esp-0x4],0x37f\n2: R_386_16 x\n8 fldcw WORD PTR [esp-0x4]\n\
                      c fadd st,st(1)\n";
     assert_eq!(named(&with(relocated, &path(&[]))), ["?fadd"]);
+    // The symbol is what is stored, and not where.
+    let stored = "0 fnstcw WORD PTR [esp+0x4]\n4 mov DWORD PTR [esp],0x0\n7: R_386_32 x\n\
+                  b fldcw WORD PTR [esp+0x4]\nf fadd st,st(1)\n";
+    assert_eq!(named(&with(stored, &path(&[]))), ["fadd"]);
 }
 
 #[test]
