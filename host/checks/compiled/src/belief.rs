@@ -119,13 +119,13 @@ impl<'a> Held<'a> {
         let events = notes.events.iter();
         let mut events = events.filter(|event| (ip.into()..last.into()).contains(&event.address));
         events.try_for_each(|event| {
+            let is_visited = event.address == ip.into();
+            let address = u32::try_from(event.address).ok();
+            let code = address.and_then(|address| code.at(address));
             let here = Here {
-                at: at + usize::from(event.address != ip.into()),
-                is_visited: event.address == ip.into(),
-                code: u32::try_from(event.address)
-                    .ok()
-                    .and_then(|address| code.at(address))
-                    .ok_or("no instruction")?,
+                at: at + usize::from(!is_visited),
+                is_visited,
+                code: code.ok_or("no instruction")?,
             };
             let told = self.event(here, event);
             told.map_err(|why| format!("{:x}, visit {at}: {why}", event.address))
@@ -183,10 +183,10 @@ impl<'a> Held<'a> {
         let now = self.beside.before(here.at);
         self.count(if name == "fsw" { "status" } else { "flags" });
         let (told, real) = (value(writer, name), value(now, name));
-        match told.is_some() && told == real {
-            true => Ok(()),
-            false => Err(format!("{name} is {real:?}, {words}, {told:?}")),
+        if told.is_some() && told == real {
+            return Ok(());
         }
+        Err(format!("{name} is {real:?}, {words}, {told:?}"))
     }
 
     /// The state behind a writer, where one is told.
@@ -218,9 +218,11 @@ impl<'a> Held<'a> {
         let real = self.operand(here).ok_or("no operand")?;
         let text = self.notes.address(number.into()).ok_or("no such place")?;
         let sum = text.strip_prefix('[').and_then(|sum| sum.strip_suffix(']'));
-        let told = sum.and_then(|sum| match self.turns {
-            true => self.beside.place_of_turn(here.at, sum),
-            false => self.beside.place(here.at, sum),
+        let told = sum.and_then(|sum| {
+            if self.turns {
+                return self.beside.place_of_turn(here.at, sum);
+            }
+            self.beside.place(here.at, sum)
         });
         self.count("places");
         if told != Some(real) {
@@ -275,10 +277,10 @@ impl<'a> Held<'a> {
         let word = word.and_then(|word| u16::try_from(word).ok());
         let word = word.ok_or("the word is not in the arena")?;
         self.count("words");
-        match claim.holds(word) {
-            true => Ok(()),
-            false => Err(format!("{word:x} is loaded: {words}")),
+        if claim.holds(word) {
+            return Ok(());
         }
+        Err(format!("{word:x} is loaded: {words}"))
     }
 
     /// Whether an instruction that is named, or one of the others behind

@@ -19,7 +19,7 @@ use notes::{Notes, Record, What};
 use x87rec::passes;
 
 /// Runs of each function.
-const RUNS: usize = 12;
+const RUNS: usize = 10;
 
 /// Functions of random code.
 const MIXED: usize = 400;
@@ -175,8 +175,10 @@ impl Held {
         }
     }
 
-    fn end(self) {
+    /// There are so many kinds of beliefs, and all are true.
+    fn end(self, kinds: usize) {
         println!("{:?}", self.counts);
+        assert_eq!(self.counts.len(), kinds, "{:?}", self.counts);
         let differences = self.differences.join("\n");
         assert!(differences.is_empty(), "{differences}");
     }
@@ -215,7 +217,7 @@ fn forms_do_what_is_believed() {
     told.retain(|_, names| !names.is_empty());
     println!("{} forms; needlessly given up: {told:?}", forms.len());
     assert_eq!(untried(&names), Vec::<String>::new());
-    held.end();
+    held.end(6);
 }
 
 /// Names that are passed over and that no form has.
@@ -241,7 +243,7 @@ fn mixtures_do_what_is_believed() {
     };
     let mut held = Held::default();
     held.all(&mut tried, &functions, |_, _| {});
-    held.end();
+    held.end(7);
 }
 
 /// Change what is believed of a function, and see that some run tells.
@@ -354,7 +356,7 @@ fn an_x87_unit_that_is_touched_is_seen() {
     let mut function = Function::entered("touches".to_owned());
     function.line("movd mm0,eax");
     function.end();
-    let place = Function::entered(String::new()).len();
+    let place = Function::entered(String::new()).instructions();
     let Some(mut tried) = started("touches", &[function]) else {
         return;
     };
