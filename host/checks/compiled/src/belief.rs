@@ -116,20 +116,26 @@ impl<'a> Held<'a> {
             .is_some_and(|code| PROBES.contains(&code.name.as_str()));
         let last = if skips { next } else { ip + 1 };
         let notes = self.notes;
-        let events = notes.events.iter();
-        let mut events = events.filter(|event| (ip.into()..last.into()).contains(&event.address));
-        events.try_for_each(|event| {
-            let is_visited = event.address == ip.into();
-            let address = u32::try_from(event.address).ok();
-            let code = address.and_then(|address| code.at(address));
-            let here = Here {
-                at: at + usize::from(!is_visited),
-                is_visited,
-                code: code.ok_or("no instruction")?,
-            };
-            let told = self.event(here, event);
-            told.map_err(|why| format!("{:x}, visit {at}: {why}", event.address))
-        })?;
+        let from = |address: u32| {
+            let address = address.into();
+            notes
+                .events
+                .partition_point(|event| event.address < address)
+        };
+        notes.events[from(ip)..from(last)]
+            .iter()
+            .try_for_each(|event| {
+                let is_visited = event.address == ip.into();
+                let address = u32::try_from(event.address).ok();
+                let code = address.and_then(|address| code.at(address));
+                let here = Here {
+                    at: at + usize::from(!is_visited),
+                    is_visited,
+                    code: code.ok_or("no instruction")?,
+                };
+                let told = self.event(here, event);
+                told.map_err(|why| format!("{:x}, visit {at}: {why}", event.address))
+            })?;
         if code.behind(ip) != Some(next) && !skips {
             self.places.clear();
         }
