@@ -165,7 +165,7 @@ impl<'a> Reading<'a> {
     }
 
     fn words(&mut self, words: &str) -> Told {
-        if words.ends_with("the stack is forgotten here") {
+        if words.contains(": the stack is forgotten here") {
             self.forgotten = true;
             self.tell(ENOUGH);
         }
@@ -350,10 +350,15 @@ impl<'a> Reading<'a> {
             return Err(format!("{} stands at {address:x}", code.name));
         }
         let behind = self.behind_last(address)?;
-        if how == "wrote it" {
+        let all = how == "wrote it";
+        if all || how == "wrote it, C1, TOP and exceptions aside" {
             let written = self.written.get(what).filter(|(by, _)| *by == address);
             let (_, value) = written.ok_or("the text does not say what it wrote")?;
-            return Ok(Some(*value));
+            if all {
+                return Ok(Some(*value));
+            }
+            let status = Value::Bits(self.before().status.into(), 16);
+            same(conditions(*value)?, conditions(status)?)?;
         }
         Ok(flag(what).map(|bit| Value::Truth(behind.flags >> bit & 1 == 1)))
     }

@@ -27,7 +27,7 @@ fn classify_and_effect_answer_as_the_rust() {
 }
 
 #[test]
-fn records_are_read_as_document_01_says() {
+fn records_are_read_as_the_manual_says() {
     assert!(sleetgate_sys::at_hand(), "{}", sleetgate_sys::MISSING);
     equal(&records::run(&Library, 200_000, 2));
 }
@@ -55,7 +55,7 @@ fn a_record_is_lifted_as_by_two_calls() {
 }
 
 #[test]
-fn sorts_are_checked_as_document_01_says() {
+fn sorts_are_checked_as_the_manual_says() {
     assert!(sleetgate_sys::at_hand(), "{}", sleetgate_sys::MISSING);
     let report = checks::run(&Library, 50_000, 2);
     equal(&report);

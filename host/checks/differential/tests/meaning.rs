@@ -23,8 +23,9 @@ use floats::{decoded, same};
 use nodes::Column;
 use text::Text;
 
-/// Rows that each list is lent.
-const ROOM: usize = 1_024;
+/// Rows that the lists are lent, as `x87lift` lends them.
+const NODE_ROOM: usize = 1_024;
+const STATEMENT_ROOM: usize = 256;
 
 /// A lift, and its listing.
 struct Lifted {
@@ -43,8 +44,8 @@ impl Lifted {
         };
         let mut lift = Self {
             state: [0; STATE],
-            nodes: vec![0; ROOM * ROW],
-            statements: vec![0; ROOM * ROW],
+            nodes: vec![0; NODE_ROOM * ROW],
+            statements: vec![0; STATEMENT_ROOM * ROW],
         };
         for _ in 0..profile.length.min(60) {
             let depth = usize::try_from(lift.state[DEPTH]).expect("at most 8");

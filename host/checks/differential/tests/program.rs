@@ -146,7 +146,7 @@ fn up_to_16384_bytes_are_taken() {
 }
 
 #[test]
-fn the_program_lists_as_document_01_and_the_rust() {
+fn the_program_lists_as_the_manual_and_the_rust() {
     let Some(program) = Program::at_hand() else {
         left_out(MISSING);
         return;
@@ -161,6 +161,39 @@ fn the_program_lists_as_document_01_and_the_rust() {
     for number in [0, 3, 4, 6, 7, 11, 12, 13] {
         assert!(report.numbers[number] > 20, "{number}: {report}");
     }
+}
+
+/// With an argument the program reads nothing: it says its version, which
+/// is that of the tools, or what it does.
+#[test]
+fn the_program_says_what_it_is() {
+    let Some(program) = Program::at_hand() else {
+        left_out(MISSING);
+        return;
+    };
+    let said = |words: &[&str]| {
+        let said = program.said(words).expect("the program runs");
+        String::from_utf8(said).expect("it is text")
+    };
+    let version = format!("x87lift {}\n", env!("CARGO_PKG_VERSION"));
+    assert_eq!(said(&["--version"]), version);
+    for words in [
+        &["--help"][..],
+        &[""],
+        &["--versio"],
+        &["a-long-argument-of-24-byte"],
+    ] {
+        let help = said(words);
+        assert!(
+            help.starts_with("usage: x87lift < RECORDS > LISTING\n"),
+            "{help}"
+        );
+        for limit in ["16,384", "1,024", "256"] {
+            assert!(help.contains(limit), "{limit}");
+        }
+    }
+    // Without one it takes what it reads for records.
+    assert_eq!(said(&[]), "d 0 0 0\nr 12 0\n");
 }
 
 /// Every listing can be read by a person: no line of it is refused, and

@@ -265,7 +265,7 @@ mod tests {
     use super::{Format, Verdict, check, constant, extracted, joined};
 
     #[test]
-    fn formats_have_the_numbers_and_widths_of_document_01() {
+    fn formats_have_the_numbers_and_widths_of_the_manual() {
         assert_eq!(Format::ALL.map(Format::number), [2072, 2869, 3904]);
         assert_eq!(Format::ALL.map(Format::width), [32, 64, 79]);
     }

@@ -30,6 +30,21 @@ impl Program {
         path.is_file().then_some(Self(path))
     }
 
+    /// What it writes when it is started with these arguments and no input.
+    ///
+    /// # Errors
+    /// Where it cannot be run, or ends with a status other than 0.
+    pub fn said(&self, words: &[&str]) -> io::Result<Vec<u8>> {
+        let done = Command::new(&self.0)
+            .args(words)
+            .stdin(Stdio::null())
+            .output()?;
+        if !done.status.success() {
+            return Err(io::Error::other(done.status.to_string()));
+        }
+        Ok(done.stdout)
+    }
+
     /// What it writes for an input.
     ///
     /// # Errors

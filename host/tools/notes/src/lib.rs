@@ -17,6 +17,7 @@
 //! | `record ADDRESS BYTES` | a record, in hexadecimal digits |
 //! | `text TEXT` | the instruction of the record above |
 //! | `why WORDS` | why the lifter is made to decline it |
+//! | `writes NUMBER` | the address that it stores to; 0 where that is not known |
 //! | `read NAME WORDS` | who wrote a flag, or `fsw`, that it reads |
 //! | `end` | the last line |
 //!
@@ -72,6 +73,9 @@ pub struct Record {
     pub text: String,
     /// Why the lifter is made to decline it.
     pub why: Option<String>,
+    /// The number of the address that it stores to; 0 where that is not
+    /// known.
+    pub writes: Option<u32>,
     /// Who wrote what it reads: `CF`, `PF`, `ZF` or `fsw`, and words.
     pub reads: Vec<(String, String)>,
 }
@@ -129,7 +133,7 @@ impl Notes {
                 }
                 self.addresses.push(text.to_owned());
             }
-            "text" | "why" | "read" => self.more(mark, rest)?,
+            "text" | "why" | "writes" | "read" => self.more(mark, rest)?,
             _ => {
                 let (address, words) = rest.split_once(' ').unwrap_or((rest, ""));
                 let address = u64::from_str_radix(address, 16).map_err(|_| "no such line")?;
@@ -152,6 +156,10 @@ impl Notes {
         match mark {
             "text" => rest.clone_into(&mut record.text),
             "why" => record.why = Some(rest.to_owned()),
+            "writes" => {
+                let number = rest.parse().map_err(|_| "an address has a number")?;
+                record.writes = Some(number);
+            }
             _ => {
                 let (name, words) = rest.split_once(' ').ok_or("a read has words")?;
                 record.reads.push((name.to_owned(), words.to_owned()));
@@ -219,6 +227,9 @@ impl fmt::Display for Event {
                 if let Some(why) = &record.why {
                     writeln!(f, "why {why}")?;
                 }
+                if let Some(number) = record.writes {
+                    writeln!(f, "writes {number}")?;
+                }
                 for (name, words) in &record.reads {
                     writeln!(f, "read {name} {words}")?;
                 }
@@ -260,6 +271,7 @@ mod tests {
             bytes: vec![0x87, 0x45],
             text: "fcmovb st, st(1)".to_owned(),
             why: Some("its rounding is not known".to_owned()),
+            writes: Some(2),
             reads: vec![("CF".to_owned(), "as it was on entry".to_owned())],
         };
         Notes {

@@ -42,8 +42,8 @@ pub fn has_lift() -> bool {
 }
 
 /// What is said where the library is not there.
-pub const MISSING: &str = "the static library of the proved crates is not there; \
-                           build it by: rt staticlib export";
+pub const MISSING: &str = "the static library of the proved crates was not there when this was \
+                           built; make it by `rt staticlib export`, then build this again";
 
 /// What is said where the library has no lifter.
 pub const MISSING_LIFT: &str = "the static library does not export x87_lift";

@@ -19,14 +19,15 @@ const LOADS: [&str; 7] = [
 /// Instructions that reset it.
 const RESETS: [&str; 4] = ["finit", "fninit", "fsave", "fnsave"];
 
-/// Library functions that change it, by their names.
+/// Library functions that change it, by their names without underscores
+/// in front.
 const FUNCTIONS: [&str; 14] = [
-    "_control87",
-    "_controlfp",
-    "_controlfp_s",
-    "__control87_2",
-    "_fpreset",
-    "__setfpucw",
+    "control87",
+    "control87_2",
+    "controlfp",
+    "controlfp_s",
+    "fpreset",
+    "setfpucw",
     "feholdexcept",
     "fesetenv",
     "fesetmode",
@@ -67,10 +68,13 @@ pub fn changed(code: &Code) -> Option<Word> {
     (LOADS.contains(&name) || calls).then_some(Word::UNKNOWN)
 }
 
-/// A symbol without its version, its library and what is added to it.
+/// A symbol without what compilers and linkers put around a name.
 fn plain_name(symbol: &str) -> &str {
     let end = symbol.find(['@', '+', '-']).unwrap_or(symbol.len());
-    &symbol[..end]
+    let name = symbol[..end].trim_start_matches('_');
+    name.strip_prefix("imp_")
+        .unwrap_or(name)
+        .trim_start_matches('_')
 }
 
 /// What an instruction that the lifter models takes from the word. Loads,
@@ -97,24 +101,20 @@ fn is_arithmetic(name: &str) -> bool {
     matches!(rest, "add" | "sub" | "subr" | "mul" | "div" | "divr")
 }
 
-/// What becomes of an instruction under the word that was last changed at
-/// this address.
-pub fn verdict(code: &Code, word: Word, changed: Option<u64>) -> Verdict {
+/// What becomes of an instruction under a word, and since when it is that.
+pub fn verdict(code: &Code, word: Word, since: &str) -> Verdict {
     let takes = takes(code);
-    let loaded = changed.map_or(String::new(), |at| {
-        format!(", since the control word was changed at {at:x}")
-    });
     if takes == Takes::Nothing {
         return Verdict::AsIs;
     }
     match word.rounding() {
-        None => return Verdict::Declined(format!("its rounding is not known{loaded}")),
+        None => return Verdict::Declined(format!("its rounding is not known{since}")),
         Some(Rounding::NearestEven) => {}
         Some(Rounding::TowardZero) if code.name == "fistp" => {
             return Verdict::Truncates("fisttp");
         }
         Some(rounding) => {
-            return Verdict::Declined(format!("it {}{loaded}", rounding.words()));
+            return Verdict::Declined(format!("it {}{since}", rounding.words()));
         }
     }
     if takes == Takes::Rounding {
@@ -122,8 +122,8 @@ pub fn verdict(code: &Code, word: Word, changed: Option<u64>) -> Verdict {
     }
     match word.precision() {
         Some(64) => Verdict::AsIs,
-        Some(bits) => Verdict::Declined(format!("it is rounded to {bits} bits{loaded}")),
-        None => Verdict::Declined(format!("its precision is not known{loaded}")),
+        Some(bits) => Verdict::Declined(format!("it is rounded to {bits} bits{since}")),
+        None => Verdict::Declined(format!("its precision is not known{since}")),
     }
 }
 

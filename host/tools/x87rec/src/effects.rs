@@ -1,7 +1,8 @@
 //! What instructions write besides the x87 stack.
 
+use crate::address::immediate;
 use crate::line::Code;
-use crate::names::{RAX, RCX, RDI, RDX, RSI};
+use crate::names::{RAX, RCX, RDI, RDX, RSI, names_mmx};
 use crate::passing::passes;
 
 /// The x87 instructions: those that the lifter models, and the others.
@@ -100,6 +101,9 @@ pub fn flags(code: &Code) -> [bool; FLAGS] {
     if is_x87(name) {
         return [FLAG_COMPARES.contains(&name); FLAGS];
     }
+    if keeps_control(code) {
+        return [name.contains("comis") || name.contains("test"); FLAGS];
+    }
     if !passes(name, &code.operands) && !code.is_return() && name != "jmp" {
         return [true; FLAGS];
     }
@@ -109,20 +113,25 @@ pub fn flags(code: &Code) -> [bool; FLAGS] {
     if CARRY.contains(&name) {
         return [true, false, false];
     }
-    if matches!(name, "inc" | "dec") {
-        return [false, true, true];
+    match name {
+        "inc" | "dec" => [false, true, true],
+        "bt" | "btc" | "btr" | "bts" => [true, true, false],
+        _ => [true; FLAGS],
     }
-    [!in_vectors(code) || name.contains("comis"); FLAGS]
 }
 
-/// Whether the first operand is a vector register.
-fn in_vectors(code: &Code) -> bool {
-    let first = code.operands.first().map(|text| text.to_ascii_lowercase());
-    first.is_some_and(|text| {
-        ["xmm", "ymm", "zmm"]
-            .iter()
-            .any(|file| text.starts_with(file))
-    })
+/// Whether an instruction that writes flags leaves them alone where its
+/// count is zero.
+pub fn may_leave_flags(code: &Code) -> bool {
+    let shifts = [
+        "rcl", "rcr", "rol", "ror", "sal", "sar", "shl", "shld", "shr", "shrd",
+    ];
+    let counts = ["cmps", "scas"];
+    let last = code.operands.last().filter(|_| code.operands.len() > 1);
+    let counted = last.is_some_and(|text| immediate(text).is_none_or(|count| count % 32 == 0));
+    let repeated = code.prefixes.iter().any(|word| word.starts_with("rep"));
+    let name = code.name.as_str();
+    shifts.contains(&name) && counted || counts.contains(&name) && repeated
 }
 
 /// Which of CF, PF and ZF an x87 instruction reads.
@@ -137,8 +146,18 @@ pub fn writes_status(code: &Code) -> bool {
     let unknown = !is_x87(name)
         && !name.starts_with('j')
         && !code.is_return()
-        && !passes(name, &code.operands);
+        && !passes(name, &code.operands)
+        && (!keeps_control(code) || code.operands.iter().any(|text| names_mmx(text)));
     STATUS.contains(&name) || unknown
+}
+
+/// Whether an instruction may change the rest of the status word: all x87
+/// instructions but those that only look at it or at the control word.
+pub fn disturbs_status(code: &Code) -> bool {
+    let looks = [
+        "fldcw", "fnop", "fnstcw", "fnstsw", "fstcw", "fstsw", "fwait", "wait",
+    ];
+    is_x87(&code.name) && !looks.contains(&code.name.as_str())
 }
 
 /// Whether an x87 instruction reads the status word.
@@ -157,7 +176,7 @@ pub fn stores(code: &Code) -> bool {
 pub fn operands(code: &Code) -> Vec<usize> {
     let name = code.name.as_str();
     let counted = name.starts_with('j') || name.starts_with("loop");
-    if matches!(name, "xchg" | "xadd") && code.operands.first() == code.operands.get(1) {
+    if name == "xchg" && code.operands.first() == code.operands.get(1) {
         return Vec::new();
     }
     match name {
@@ -177,6 +196,7 @@ pub fn registers(code: &Code) -> Vec<usize> {
         "lods" => vec![RAX, RSI],
         "stos" | "scas" => vec![RDI],
         "movs" | "cmps" => vec![RSI, RDI],
+        _ if is_string_move(code) => vec![RSI, RDI],
         "loop" | "loope" | "loopne" => vec![RCX],
         _ => Vec::new(),
     };
@@ -188,7 +208,27 @@ pub fn registers(code: &Code) -> Vec<usize> {
 
 /// Whether it stores where a register points.
 pub fn writes_anywhere(code: &Code) -> bool {
-    matches!(code.name.as_str(), "stos" | "movs")
+    let name = code.name.as_str();
+    matches!(name, "stos" | "movs") || name.starts_with("maskmov") || is_string_move(code)
+}
+
+/// Whether it stores at a bit that a register counts from its operand on.
+pub fn writes_counted_bit(code: &Code) -> bool {
+    let counted = code
+        .operands
+        .get(1)
+        .is_some_and(|text| immediate(text).is_none());
+    counted && matches!(code.name.as_str(), "bts" | "btr" | "btc")
+}
+
+/// Whether this is the string instruction `movsd`, not the one on vector
+/// registers.
+fn is_string_move(code: &Code) -> bool {
+    let vector = code
+        .operands
+        .iter()
+        .any(|text| text.to_ascii_lowercase().contains("xmm"));
+    code.name == "movsd" && !vector
 }
 
 /// Whether an instruction that is not known to pass still leaves the
@@ -207,5 +247,6 @@ pub fn keeps_control(code: &Code) -> bool {
             .split(|c: char| !c.is_ascii_alphanumeric())
             .any(vector)
     });
-    named || matches!(code.name.as_str(), "emms" | "femms")
+    let name = code.name.as_str();
+    named || matches!(name, "emms" | "femms" | "vzeroall" | "vzeroupper")
 }

@@ -2,9 +2,13 @@
 //! whole text, along all its ways at once.
 
 use std::collections::{BTreeMap, BTreeSet};
+use std::ops::Bound::{Excluded, Unbounded};
 
+use crate::address::address;
 use crate::line::{Code, Line};
-use crate::machine::{Calls, Machine, Value};
+use crate::machine::{Calls, Machine};
+use crate::memory::Value;
+use crate::names::{RSP, register};
 use crate::path::Step;
 use crate::place::Version;
 
@@ -15,6 +19,9 @@ pub struct Callees {
     /// Bytes that functions of the text take at their return, by their
     /// address.
     returns: BTreeMap<u64, i64>,
+    /// Where functions of the text begin, by the names that stand there
+    /// once.
+    names: BTreeMap<String, Option<u64>>,
     /// Calls of which it is not known what they take.
     doubtful: BTreeSet<u64>,
     /// What a call takes, where the way's return tells.
@@ -25,18 +32,18 @@ impl Callees {
     /// What the text tells.
     pub fn of(lines: &[Line], word: i64) -> Self {
         let mut returns: BTreeMap<u64, Option<i64>> = BTreeMap::new();
+        let mut names: BTreeMap<String, Option<u64>> = BTreeMap::new();
         let mut function = None;
         let targets = call_targets(lines);
-        let mut begins = true;
-        for line in lines {
-            let Line::Code(code) = line else {
-                begins = true;
-                continue;
-            };
-            if begins || targets.contains(&code.address) {
+        for code in lines.iter().filter_map(Line::code) {
+            let before = &code.before;
+            if before.broken || before.symbol.is_some() || targets.contains(&code.address) {
                 function = Some(code.address);
             }
-            begins = false;
+            if let Some(name) = before.symbol.clone() {
+                let other = names.contains_key(&name);
+                names.insert(name, (!other).then_some(code.address));
+            }
             if let Some(function) = function.filter(|_| code.is_return()) {
                 let taken = taken(code);
                 let known = returns.entry(function).or_insert(Some(taken));
@@ -47,6 +54,7 @@ impl Callees {
         Self {
             word,
             returns: returns.into_iter().filter_map(known).collect(),
+            names,
             doubtful: BTreeSet::new(),
             solved: BTreeMap::new(),
         }
@@ -54,8 +62,14 @@ impl Callees {
 
     /// Whether the text tells what a call takes from the stack.
     pub fn is_told(&self, code: &Code) -> bool {
-        let target = code.target();
-        self.word == 8 || target.is_some_and(|target| self.returns.contains_key(&target))
+        self.word == 8 || self.taken(code).is_some()
+    }
+
+    /// What the called function takes, by its address or its name.
+    fn taken(&self, code: &Code) -> Option<i64> {
+        let named = || *self.names.get(code.symbol()?)?;
+        let function = code.target().or_else(named)?;
+        self.returns.get(&function).copied()
     }
 
     pub fn is_doubtful(&self, code: &Code) -> bool {
@@ -75,7 +89,7 @@ fn taken(code: &Code) -> i64 {
 /// Where the calls of a text go.
 fn call_targets(lines: &[Line]) -> BTreeSet<u64> {
     let code = lines.iter().filter_map(Line::code);
-    code.filter(|code| code.is_call())
+    code.filter(|code| code.is_call() && !code.is_call_to_next())
         .filter_map(Code::target)
         .collect()
 }
@@ -89,44 +103,106 @@ impl Calls for Callees {
         if self.is_doubtful(code) {
             return None;
         }
-        let told = code.target().and_then(|target| self.returns.get(&target));
-        let told = told.or_else(|| self.solved.get(&code.address));
-        Some(told.copied().unwrap_or(0))
+        let solved = self.solved.get(&code.address).copied();
+        Some(self.taken(code).or(solved).unwrap_or(0))
     }
 }
 
 /// What is known before each line of a way. A call takes nothing from the
 /// stack, or more: where the way returns with the stack pointer of its
 /// entry, no call on it took anything, and where it has one call alone
-/// that the text does not tell of, the return tells what that took. Where
-/// neither is seen, the stack pointer is not known behind such a call.
+/// that the text does not tell of, the return tells what that took. It
+/// tells nothing of a call behind which the stack pointer is set anew, as
+/// `leave` does. Where it is not told, the stack pointer is not known
+/// behind the call.
 pub fn along(steps: &[Step], callees: &mut Callees) -> Vec<Machine> {
+    let calls = Called::on(steps, callees);
+    callees.doubtful.extend(calls.hidden);
     let first = walked(steps, callees);
     let entry = steps.first().map_or(0, |step| step.code.address);
     let last = steps.last().filter(|step| step.code.is_return());
-    let missing = last
-        .and(first.last())
-        .and_then(|machine| missing(machine, entry));
-    let calls = steps
-        .iter()
-        .map(|step| &step.code)
-        .filter(|code| code.is_call());
-    let untold: Vec<u64> = calls
-        .filter(|code| !callees.is_told(code))
-        .map(|code| code.address)
-        .collect();
-    match (missing, &untold[..]) {
-        (Some(0), _) | (_, []) => return first,
+    let back = last.and(first.last());
+    let missing = back.and_then(|machine| missing(machine, entry));
+    match (missing, &calls.seen[..]) {
+        (Some(0), _) => return first,
         (Some(bytes), &[call]) => drop(callees.solved.insert(call, bytes)),
-        _ => callees.doubtful.extend(untold),
+        // The text tells wrong of a call that it has.
+        (_, []) if last.is_some() => callees.doubtful.extend(calls.told),
+        (_, []) => return first,
+        _ => callees.doubtful.extend(calls.seen),
     }
     walked(steps, callees)
+}
+
+/// The calls on a way, by what tells what they take.
+#[derive(Default)]
+struct Called {
+    /// The text has the function.
+    told: Vec<u64>,
+    /// The stack pointer is set anew behind them.
+    hidden: Vec<u64>,
+    /// The return tells.
+    seen: Vec<u64>,
+}
+
+impl Called {
+    fn on(steps: &[Step], callees: &Callees) -> Self {
+        let set = steps.iter().rposition(|step| sets_pointer(&step.code));
+        let mut calls = Self::default();
+        for (at, step) in steps.iter().enumerate() {
+            let code = &step.code;
+            if !is_true_call(code) {
+                continue;
+            }
+            let kind = if callees.is_told(code) {
+                &mut calls.told
+            } else if set.is_some_and(|set| at < set) {
+                &mut calls.hidden
+            } else {
+                &mut calls.seen
+            };
+            kind.push(code.address);
+        }
+        calls
+    }
+}
+
+/// Whether this calls a function.
+fn is_true_call(code: &Code) -> bool {
+    code.is_call() && !code.is_call_to_next()
+}
+
+/// Whether an instruction sets the stack pointer to what does not hang on
+/// the one before.
+fn sets_pointer(code: &Code) -> bool {
+    let operand = |number: usize| {
+        code.operands
+            .get(number)
+            .map(|text| text.to_ascii_lowercase())
+    };
+    let is_pointer = |text: &String| matches!(register(text), Some((RSP, _)));
+    let first = operand(0).is_some_and(|text| is_pointer(&text));
+    let moved = match code.name.as_str() {
+        "leave" => return true,
+        "lea" => operand(1)
+            .and_then(|text| address(&text))
+            .is_some_and(|sum| {
+                let on = |(name, _): &(String, u64)| is_pointer(name);
+                sum.registers.iter().any(on)
+            }),
+        "add" | "sub" | "and" | "push" | "cmp" | "test" => true,
+        _ => false,
+    };
+    let exchanged = code.name == "xchg" && operand(1).is_some_and(|text| is_pointer(&text));
+    first && !moved || exchanged
 }
 
 /// How far below that of the entry the stack pointer is.
 fn missing(machine: &Machine, entry: u64) -> Option<i64> {
     match machine.pointer() {
-        Value::Stack(base, offset) if base == Version::Entry(entry) && offset <= 0 => Some(-offset),
+        Value::Stack(base, offset) if base == Version::Entry(entry) && offset <= 0 => {
+            offset.checked_neg()
+        }
         _ => None,
     }
 }
@@ -149,32 +225,39 @@ fn walked(steps: &[Step], callees: &Callees) -> Vec<Machine> {
 }
 
 /// What is known before each line of a text, whichever way leads there.
+/// The returns of a function tell of its calls, as for a way, where it
+/// does not set the stack pointer anew.
 pub fn through(lines: &[Line], callees: &mut Callees) -> BTreeMap<u64, Machine> {
     let text = Text::of(lines);
+    let functions = |is: &dyn Fn(&Code) -> bool| -> BTreeSet<u64> {
+        let code = text.code.values().filter(|code| is(code));
+        code.map(|code| text.function(code.address)).collect()
+    };
+    let restoring = functions(&sets_pointer);
+    let untold: Vec<(u64, u64)> = text
+        .code
+        .values()
+        .filter(|code| is_true_call(code) && !callees.is_told(code))
+        .map(|code| (code.address, text.function(code.address)))
+        .collect();
+    let hidden = untold
+        .iter()
+        .filter(|(_, function)| restoring.contains(function));
+    callees.doubtful.extend(hidden.map(|(call, _)| call));
     let first = text.solve(callees);
-    let wrong: Vec<u64> = text
-        .code
-        .values()
-        .filter(|code| code.is_return())
-        .filter(|code| {
-            let entry = text.function(code.address);
-            first
-                .get(&code.address)
-                .is_some_and(|machine| missing(machine, entry) != Some(0))
-        })
-        .map(|code| text.function(code.address))
-        .collect();
-    let doubtful: Vec<u64> = text
-        .code
-        .values()
-        .filter(|code| code.is_call() && !callees.is_told(code))
-        .filter(|code| wrong.contains(&text.function(code.address)))
-        .map(|code| code.address)
-        .collect();
-    if doubtful.is_empty() {
+    let wrong = functions(&|code| {
+        let entry = text.function(code.address);
+        let back = |machine: &Machine| missing(machine, entry) == Some(0);
+        code.is_return() && !first.get(&code.address).is_some_and(back)
+    });
+    let doubtful = untold
+        .iter()
+        .filter(|(_, function)| wrong.contains(function));
+    let before = callees.doubtful.len();
+    callees.doubtful.extend(doubtful.map(|(call, _)| call));
+    if callees.doubtful.len() == before {
         return first;
     }
-    callees.doubtful.extend(doubtful);
     text.solve(callees)
 }
 
@@ -182,6 +265,8 @@ pub fn through(lines: &[Line], callees: &mut Callees) -> BTreeMap<u64, Machine> 
 struct Text<'a> {
     code: BTreeMap<u64, &'a Code>,
     entries: BTreeSet<u64>,
+    /// Lines that a jump goes to or that stand behind one.
+    blocks: BTreeSet<u64>,
 }
 
 impl<'a> Text<'a> {
@@ -200,7 +285,14 @@ impl<'a> Text<'a> {
         }
         let targets = call_targets(lines).into_iter();
         entries.extend(targets.filter(|target| code.contains_key(target)));
-        Self { code, entries }
+        let jumps = code.values().filter(|code| code.is_jump());
+        let blocks = jumps.flat_map(|code| code.target().into_iter().chain(code.next));
+        let blocks = blocks.collect();
+        Self {
+            code,
+            entries,
+            blocks,
+        }
     }
 
     /// Where the function of a line begins.
@@ -210,23 +302,17 @@ impl<'a> Text<'a> {
     }
 
     fn next(&self, address: u64) -> Option<u64> {
-        self.code.range(address + 1..).next().map(|(&next, _)| next)
+        self.code
+            .range((Excluded(address), Unbounded))
+            .next()
+            .map(|(&next, _)| next)
     }
 
-    /// The lines that may come behind one. A jump to where another
-    /// function begins is the end of this one; one whose target is not
-    /// told may go to any line of its function.
+    /// The lines that may come behind one, if the text tells them. A jump
+    /// to where another function begins is the end of this one.
     fn behind(&self, code: &Code) -> Vec<u64> {
         let mut all = Vec::new();
-        if code.is_indirect() {
-            let begin = self.function(code.address);
-            let end = self.entries.range(begin + 1..).next();
-            let lines = match end {
-                Some(&end) => self.code.range(begin..end),
-                None => self.code.range(begin..),
-            };
-            all.extend(lines.map(|(&line, _)| line));
-        } else if code.name.starts_with('j') || code.name.starts_with("loop") {
+        if !code.is_indirect() && (code.name.starts_with('j') || code.name.starts_with("loop")) {
             let other = |target: &u64| {
                 self.entries.contains(target) && *target != self.function(code.address)
             };
@@ -236,6 +322,19 @@ impl<'a> Text<'a> {
             all.extend(self.next(code.address));
         }
         all
+    }
+
+    /// The lines that a jump whose target is not told may go to: all of its
+    /// function but those of the block that it begins with.
+    fn anywhere(&self, function: u64) -> impl Iterator<Item = u64> {
+        let end = self.entries.range((Excluded(function), Unbounded)).next();
+        let first = self.blocks.range(function..).next().copied();
+        let first = first.unwrap_or(u64::MAX);
+        let lines = match end {
+            Some(&end) => self.code.range(first.min(end)..end),
+            None => self.code.range(first..),
+        };
+        lines.map(|(&line, _)| line)
     }
 
     /// What is known before each line. Lines that no line leads to are
@@ -249,6 +348,7 @@ impl<'a> Text<'a> {
             before: BTreeMap::new(),
             after: BTreeMap::new(),
             visits: BTreeMap::new(),
+            joints: BTreeMap::new(),
             closed: BTreeSet::new(),
         };
         solver.run(self.entries.clone());
@@ -288,6 +388,9 @@ struct Solver<'a> {
     before: BTreeMap<u64, Machine>,
     after: BTreeMap<u64, Machine>,
     visits: BTreeMap<u64, u32>,
+    /// What holds behind all jumps of a function whose targets are not
+    /// told, and the first line that they may go to.
+    joints: BTreeMap<u64, (Machine, u64)>,
     /// Lines that are done.
     closed: BTreeSet<u64>,
 }
@@ -304,12 +407,41 @@ impl Solver<'_> {
             let mut behind = machine.clone();
             behind.step(code, self.callees);
             self.before.insert(line, machine);
+            if code.is_indirect() {
+                work.extend(self.join(line, &behind));
+            }
             self.after.insert(line, behind);
             let next = self.text.behind(code).into_iter();
             let open =
                 |next: &u64| self.text.code.contains_key(next) && !self.closed.contains(next);
             work.extend(next.filter(open));
         }
+    }
+
+    /// Join what is known behind a jump whose target is not told to that
+    /// of the others of its function; the lines for which less is known
+    /// then.
+    fn join(&mut self, jump: u64, behind: &Machine) -> Vec<u64> {
+        let function = self.text.function(jump);
+        let Some(first) = self.text.anywhere(function).next() else {
+            return Vec::new();
+        };
+        let less = match self.joints.get_mut(&function) {
+            Some((joint, _)) => {
+                let old = joint.clone();
+                joint.meet(behind, first);
+                *joint != old
+            }
+            None => {
+                self.joints.insert(function, (behind.clone(), first));
+                true
+            }
+        };
+        if !less {
+            return Vec::new();
+        }
+        let open = |line: &u64| !self.closed.contains(line);
+        self.text.anywhere(function).filter(open).collect()
     }
 
     /// What is known on coming to a line from all lines before it.
@@ -320,7 +452,15 @@ impl Solver<'_> {
         let entry = self.entries.contains(&line).then(|| Machine::entry(line));
         let ahead = self.ahead.get(&line).into_iter().flatten();
         let ways = ahead.filter_map(|ahead| self.after.get(ahead)).cloned();
-        let mut ways = entry.into_iter().chain(ways).chain(old.cloned());
+        let joint = self.joints.get(&self.text.function(line));
+        let joint = joint
+            .filter(|(_, first)| *first <= line)
+            .map(|(joint, _)| joint.clone());
+        let mut ways = entry
+            .into_iter()
+            .chain(ways)
+            .chain(joint)
+            .chain(old.cloned());
         let mut machine = ways.next().unwrap_or_else(|| Machine::entry(line));
         for way in ways {
             machine.meet(&way, line);

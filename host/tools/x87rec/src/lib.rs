@@ -88,6 +88,7 @@ mod effects;
 mod flow;
 mod line;
 mod machine;
+mod memory;
 mod names;
 mod operand;
 mod passing;
@@ -200,7 +201,12 @@ impl fmt::Display for Translated {
 /// many bytes.
 pub fn translate(text: &str, options: &Options) -> Result<Translated, Wrong> {
     let all = line::all(text)?;
-    let mut callees = Callees::of(&all, stack_word(&all));
+    if !all.iter().any(|line| line.code().is_some()) {
+        let why = "the text has no instruction: did the step before this one fail?".to_owned();
+        return Err(Wrong { line: 0, why });
+    }
+    let (word, apart) = (stack_word(&all), twice(&all).is_none());
+    let told = apart.then(|| Callees::of(&all, word));
     let targets: BTreeSet<u64> = all
         .iter()
         .filter_map(Line::code)
@@ -210,14 +216,31 @@ pub fn translate(text: &str, options: &Options) -> Result<Translated, Wrong> {
         Some(function) => wanted::function(all, function)?,
         None => all,
     };
-    let translated = match &options.path {
+    if let Some(code) = twice(&lines) {
+        let why = format!(
+            "{:x} stands there twice: take one function (--function)",
+            code.address
+        );
+        let line = code.line;
+        return Err(Wrong { line, why });
+    }
+    // Where sections begin at the same address, only its own lines tell
+    // what a function calls.
+    let mut callees = told.unwrap_or_else(|| Callees::of(&lines, word));
+    match &options.path {
         Some(takes) => {
             let way = path::follow(lines, takes)?;
             one_way(&way, &mut callees, options)
         }
         None => whole(&lines, &targets, &mut callees, options),
-    }?;
-    fits(translated)
+    }
+}
+
+/// The first line whose address an earlier one has.
+fn twice(lines: &[Line]) -> Option<&line::Code> {
+    let mut met = BTreeSet::new();
+    let mut code = lines.iter().filter_map(Line::code);
+    code.find(|code| !met.insert(code.address))
 }
 
 /// The bytes of an entry on the stack: eight where a line names a register
@@ -238,7 +261,7 @@ fn stack_word(lines: &[Line]) -> i64 {
 /// One way through the code.
 fn one_way(way: &Way, callees: &mut Callees, options: &Options) -> Result<Translated, Wrong> {
     let machines = along(&way.steps, callees);
-    let code = way.steps.iter().map(|step| &step.code);
+    let code = way.steps.iter().map(|step| &step.code).zip(&machines);
     let mut work = Work::new(options, callees, code);
     for (step, machine) in way.steps.iter().zip(&machines) {
         work.step(step, machine)?;
@@ -256,30 +279,12 @@ fn whole(
 ) -> Result<Translated, Wrong> {
     let machines = through(lines, callees);
     let code = lines.iter().filter_map(Line::code);
+    let code = code.map(|code| (code, &machines[&code.address]));
     let mut work = Work::new(options, callees, code);
-    for line in lines {
-        match line {
-            Line::Break => work.broken(None),
-            Line::Symbol(name) => work.broken(Some(name)),
-            Line::Code(code) => {
-                let entered = targets.contains(&code.address);
-                work.line(code, &machines[&code.address], entered)?;
-            }
-        }
+    for code in lines.iter().filter_map(Line::code) {
+        let entered = targets.contains(&code.address);
+        work.line(code, &machines[&code.address], entered)?;
     }
     work.off(lines.iter().rev().find_map(Line::code));
     Ok(work.done("all lines in their order: a conditional jump is passed over as not taken"))
-}
-
-/// The translation, if `x87lift` takes its bytes.
-fn fits(translated: Translated) -> Result<Translated, Wrong> {
-    let bytes = translated.bytes().len();
-    if bytes <= MOST_BYTES {
-        return Ok(translated);
-    }
-    let why = format!(
-        "{bytes} bytes of records, and x87lift takes {MOST_BYTES}: \
-         take one function (--function) or one way (--path)"
-    );
-    Err(Wrong { line: 0, why })
 }

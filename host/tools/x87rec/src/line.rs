@@ -39,6 +39,17 @@ pub struct Code {
     pub comment: Option<u64>,
     /// What the linker will put into the instruction.
     pub relocation: Option<Relocation>,
+    /// What stands before it.
+    pub before: Before,
+}
+
+/// What stands between an instruction and the one above it.
+#[derive(Debug, Clone, PartialEq, Eq, Default)]
+pub struct Before {
+    /// Whether a section begins, or bytes were skipped.
+    pub broken: bool,
+    /// The symbol of a function.
+    pub symbol: Option<String>,
 }
 
 /// A line of `objdump -dr` below an instruction.
@@ -62,6 +73,7 @@ const PREFIXES: [&str; 20] = [
 pub fn all(text: &str) -> Result<Vec<Line>, Wrong> {
     let mut lines: Vec<Line> = Vec::new();
     let mut last = None;
+    let mut before = Before::default();
     for (at, line) in text.lines().enumerate() {
         let wrong = |why: String| Wrong { line: at + 1, why };
         match one(line, at + 1).map_err(wrong)? {
@@ -73,10 +85,15 @@ pub fn all(text: &str) -> Result<Vec<Line>, Wrong> {
                 };
                 code.relocation = Some(relocation);
             }
-            Some(Read::Line(line)) => {
-                if let Line::Code(code) = &line {
-                    followed(&mut lines, last, code.address);
-                    last = Some(lines.len());
+            Some(Read::Line(mut line)) => {
+                match &mut line {
+                    Line::Break => before.broken = true,
+                    Line::Symbol(name) => before.symbol = Some(name.clone()),
+                    Line::Code(code) => {
+                        code.before = std::mem::take(&mut before);
+                        followed(&mut lines, last, code.address);
+                        last = Some(lines.len());
+                    }
                 }
                 lines.push(line);
             }
@@ -105,7 +122,11 @@ fn one(line: &str, number: usize) -> Result<Option<Read>, String> {
     if trimmed.is_empty() || trimmed.starts_with('#') || trimmed.contains("file format ") {
         return Ok(None);
     }
-    let breaks = ["Disassembly of section ", "End of assembler dump"];
+    let breaks = [
+        "Disassembly of section ",
+        "End of assembler dump",
+        "Address range ",
+    ];
     if trimmed == "..." || breaks.iter().any(|words| trimmed.starts_with(words)) {
         return Ok(Some(Read::Line(Line::Break)));
     }
@@ -118,7 +139,7 @@ fn one(line: &str, number: usize) -> Result<Option<Read>, String> {
     if text.is_empty() {
         return Ok(None);
     }
-    if text.starts_with("R_") {
+    if is_relocation(text) {
         let relocation = relocation(address, text).ok_or_else(unknown)?;
         return Ok(Some(Read::Relocation(relocation)));
     }
@@ -168,6 +189,13 @@ fn without_bytes(rest: &str) -> &str {
     }
 }
 
+/// Whether this is the kind of a relocation, of ELF or of COFF.
+fn is_relocation(text: &str) -> bool {
+    let kind = text.split_whitespace().next().unwrap_or_default();
+    let coff = ["dir32", "DISP32", "rva32", "secidx", "secrel32"];
+    kind.starts_with("R_") || kind.starts_with("IMAGE_REL_") || coff.contains(&kind)
+}
+
 fn relocation(place: u64, text: &str) -> Option<Relocation> {
     let (kind, symbol) = text.split_once(char::is_whitespace)?;
     Some(Relocation {
@@ -207,6 +235,7 @@ fn code(line: usize, address: u64, text: &str) -> Result<Code, String> {
         operands: operands(rest)?,
         comment: comment.split_whitespace().next().and_then(hexadecimal),
         relocation: None,
+        before: Before::default(),
     })
 }
 
@@ -239,7 +268,12 @@ impl Code {
     /// Where a jump or a call goes, if the text tells; a target that the
     /// linker has yet to put in is told by its symbol alone.
     pub fn target(&self) -> Option<u64> {
-        if !self.goes_elsewhere() || self.relocation.is_some() {
+        self.direct().filter(|_| self.relocation.is_none())
+    }
+
+    /// The address that a jump or a call has in its text.
+    fn direct(&self) -> Option<u64> {
+        if !self.goes_elsewhere() {
             return None;
         }
         let word = self.operands.first()?.split_whitespace().next()?;
@@ -248,15 +282,30 @@ impl Code {
 
     /// Whether this jumps to where the text does not tell.
     pub fn is_indirect(&self) -> bool {
-        self.name.starts_with('j') && self.target().is_none() && self.relocation.is_none()
+        self.name.starts_with('j') && self.direct().is_none()
     }
 
     pub fn is_return(&self) -> bool {
-        self.name.starts_with("ret")
+        self.name.starts_with("ret") || self.name.starts_with("iret")
+    }
+
+    /// Whether the line below is not all that may come next.
+    pub fn is_jump(&self) -> bool {
+        self.name.starts_with('j') || self.name.starts_with("loop") || self.is_return()
     }
 
     pub fn is_call(&self) -> bool {
         self.name == "call"
+    }
+
+    /// Whether this calls the line behind it, which then pops its address.
+    pub fn is_call_to_next(&self) -> bool {
+        self.is_call() && self.target().is_some() && self.target() == self.next
+    }
+
+    /// Whether nothing follows this: it stops the processor.
+    pub fn is_stop(&self) -> bool {
+        matches!(self.name.as_str(), "ud2" | "hlt")
     }
 
     /// Whether this is a jump that may go on below.
@@ -270,7 +319,7 @@ impl Code {
 
     /// The symbol that the linker or the disassembler gives a target.
     pub fn symbol(&self) -> Option<&str> {
-        if let Some(relocation) = &self.relocation {
+        if let Some(relocation) = self.relocation.as_ref().filter(|_| self.direct().is_some()) {
             return Some(&relocation.symbol);
         }
         let (_, name) = self.operands.first()?.split_once('<')?;
@@ -282,7 +331,7 @@ impl Code {
         let words = self.prefixes.iter().chain([&self.name]);
         let words: Vec<&str> = words.map(String::as_str).collect();
         let operands = match &self.relocation {
-            Some(relocation) if self.goes_elsewhere() => relocation.symbol.clone(),
+            Some(relocation) if self.direct().is_some() => relocation.symbol.clone(),
             _ => self.operands.join(", "),
         };
         format!("{} {operands}", words.join(" "))

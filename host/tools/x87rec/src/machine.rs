@@ -2,26 +2,19 @@
 //! pointer is, which value each register has, what was stored of the
 //! control word, who wrote the flags.
 
-use std::collections::BTreeMap;
-
-use crate::address::{immediate, memory, width};
+use crate::address::{immediate, in_segment, memory, width};
 use crate::control::changed;
 use crate::effects::{self, FLAGS};
 use crate::line::Code;
-use crate::names::{Part, RAX, RBP, RCX, RDX, REGISTERS, RSP, register};
+use crate::memory::{Memory, Value};
+use crate::names::{Part, RAX, RBP, RCX, RDI, RDX, REGISTERS, RSI, RSP, register};
 use crate::passing::passes;
 use crate::place::{Place, Term, Version, sum};
 use crate::word::Word;
 
-/// What a register or a place of memory holds.
-#[derive(Debug, Clone, Copy, PartialEq, Eq)]
-pub enum Value {
-    /// An address on the stack, counted from a stack pointer.
-    Stack(Version, i64),
-    /// In its lower 16 bits, so much of a control word.
-    Word(Word),
-    Unknown,
-}
+/// Registers that a call may change, in 32-bit and in 64-bit code.
+const LOST_32: [usize; 3] = [RAX, RCX, RDX];
+const LOST_64: [usize; 9] = [RAX, RCX, RDX, RSI, RDI, 8, 9, 10, 11];
 
 /// Who wrote a flag last.
 #[derive(Debug, Clone, Copy, PartialEq, Eq)]
@@ -32,19 +25,19 @@ pub enum Writer {
     Several,
 }
 
+/// What makes the control word another than that of the entry.
+#[derive(Debug, Clone, Copy, PartialEq, Eq)]
+pub enum Change {
+    /// An instruction that changed it, or may have.
+    At(u64),
+    /// Ways that meet here with different words.
+    Meeting(u64),
+}
+
 #[derive(Debug, Clone, Copy, PartialEq, Eq)]
 struct Register {
     value: Value,
     version: Version,
-}
-
-/// What was stored, and what was crossed since that could have changed it
-/// if it pointed there.
-#[derive(Debug, Clone, Copy, PartialEq, Eq)]
-struct Stored {
-    bytes: i64,
-    value: Value,
-    crossed: Option<u64>,
 }
 
 /// What is known at a line.
@@ -53,17 +46,15 @@ pub struct Machine {
     /// How often a way came to the line, this time included.
     pub visit: u32,
     registers: [Register; REGISTERS],
-    memory: BTreeMap<Place, Stored>,
-    /// Whether an address on the stack was handed out, so that any store
-    /// may go there.
-    escaped: bool,
+    memory: Memory,
     pub control: Word,
-    /// Where the control word was last changed.
-    pub changed: Option<u64>,
-    /// What the word that `fldcw` loaded was taken to survive.
-    pub crossed: Option<u64>,
+    /// Where the control word was last changed, or may have been.
+    pub changed: Option<Change>,
     pub flags: [Writer; FLAGS],
     pub status: Writer,
+    /// Whether x87 code has run since, which moves TOP and may raise
+    /// exceptions.
+    pub disturbed: bool,
 }
 
 /// What a call does to the stack pointer, and how wide that is.
@@ -86,13 +77,12 @@ impl Machine {
         Self {
             visit: 1,
             registers,
-            memory: BTreeMap::new(),
-            escaped: false,
+            memory: Memory::default(),
             control: Word::ENTRY,
             changed: None,
-            crossed: None,
             flags: [Writer::Entry; FLAGS],
             status: Writer::Entry,
+            disturbed: false,
         }
     }
 
@@ -115,20 +105,16 @@ impl Machine {
                 };
             }
         }
-        self.memory.retain(|place, stored| {
-            let same = other.memory.get(place);
-            same.is_some_and(|same| (same.bytes, same.value) == (stored.bytes, stored.value))
-        });
-        self.escaped |= other.escaped;
+        self.memory.meet(&other.memory);
         if self.control != other.control {
             self.control = self.control.meet(other.control);
-            self.changed = Some(address);
+            self.changed = Some(Change::Meeting(address));
         }
-        self.crossed = self.crossed.or(other.crossed);
         for (mine, other) in self.flags.iter_mut().zip(&other.flags) {
             *mine = met(*mine, *other);
         }
         self.status = met(self.status, other.status);
+        self.disturbed |= other.disturbed;
     }
 
     /// The place of a memory operand, as it is now.
@@ -146,7 +132,7 @@ impl Machine {
             match value {
                 Value::Stack(base, offset) if scale == 1 && place.stack.is_none() => {
                     place.stack = Some(base);
-                    place.offset += offset;
+                    place.offset = place.offset.wrapping_add(offset);
                 }
                 _ => place.terms.push(Term {
                     name,
@@ -158,67 +144,127 @@ impl Machine {
         Some(place)
     }
 
+    /// The memory operands of an instruction, and their bytes.
+    pub fn places(&self, code: &Code) -> Vec<(Place, i64)> {
+        let texts = code.operands.iter().filter_map(|text| memory(text));
+        let place = |text: String| Some((self.place(&text, code)?, bytes(&text)));
+        texts.filter_map(place).collect()
+    }
+
+    /// The memory that an instruction which passes writes, as far as its
+    /// place is known.
+    pub fn written(&self, code: &Code, calls: &dyn Calls) -> Vec<(Place, i64)> {
+        if code.name == "push" {
+            let bytes = entry_bytes(code, calls);
+            let below = |top: Place| Place {
+                offset: top.offset.wrapping_sub(bytes),
+                ..top
+            };
+            return self
+                .top()
+                .map(below)
+                .map(|top| (top, bytes))
+                .into_iter()
+                .collect();
+        }
+        let numbers = if effects::is_x87(&code.name) {
+            vec![0; usize::from(effects::stores(code))]
+        } else {
+            effects::operands(code)
+        };
+        let texts = numbers
+            .into_iter()
+            .filter_map(|number| code.operands.get(number));
+        let texts = texts.filter_map(|text| memory(text));
+        let place = |text: String| Some((self.place(&text, code)?, bytes(&text)));
+        texts.filter_map(place).collect()
+    }
+
     /// What is known behind an instruction.
     pub fn step(&mut self, code: &Code, calls: &dyn Calls) {
         let at = code.address;
-        for (flag, writer) in effects::flags(code).into_iter().zip(&mut self.flags) {
-            if flag {
-                *writer = Writer::At(at);
+        let writer = if effects::may_leave_flags(code) {
+            Writer::Several
+        } else {
+            Writer::At(at)
+        };
+        for (written, flag) in effects::flags(code).into_iter().zip(&mut self.flags) {
+            if written {
+                *flag = writer;
             }
         }
         if effects::writes_status(code) {
             self.status = Writer::At(at);
+            self.disturbed = false;
+        } else {
+            self.disturbed |= effects::disturbs_status(code);
         }
         if let Some(word) = changed(code) {
-            self.load_control(word, at, None);
+            self.load_control(word, at);
         }
         match code.name.as_str() {
             "push" => self.push(code, entry_bytes(code, calls)),
             "pop" => self.pop(code, entry_bytes(code, calls)),
             "call" => self.call(code, calls),
-            "leave" => {
-                self.registers[RSP].value = self.registers[RBP].value;
-                self.settle(at);
-                self.take(RBP, at, calls.word());
-            }
+            "leave" => self.leave(at, calls.word()),
             "mov" | "movzx" | "lea" => self.moves(code),
             "add" | "sub" | "or" | "and" | "xor" => self.computes(code),
             name if effects::is_x87(name) => self.x87(code),
-            name if passes(name, &code.operands) => self.writes(code),
+            name if passes(name, &code.operands) || effects::keeps_control(code) => {
+                self.writes(code);
+            }
             _ if code.is_return() || code.name.starts_with('j') => {}
             _ => self.anything(code),
         }
     }
 
-    fn load_control(&mut self, word: Word, at: u64, crossed: Option<u64>) {
+    fn load_control(&mut self, word: Word, at: u64) {
         self.control = word;
-        self.changed = Some(at);
-        self.crossed = crossed;
+        self.changed = Some(Change::At(at));
     }
 
     fn push(&mut self, code: &Code, bytes: i64) {
         let value = self.operand(code, 0);
-        self.escaped |= matches!(value, Value::Stack(..));
-        self.move_pointer(-bytes, code.address);
-        let top = self.top();
-        self.write(top, bytes, value, code.address);
+        self.push_value(value, bytes, code.address);
     }
 
+    fn push_value(&mut self, value: Value, bytes: i64, at: u64) {
+        if value.is_on_stack() {
+            self.memory.hand_out();
+        }
+        self.move_pointer(-bytes, at);
+        let top = self.top();
+        self.memory.write(top, bytes, value, at);
+    }
+
+    /// An address that is counted from the stack pointer is that behind
+    /// the pop.
     fn pop(&mut self, code: &Code, bytes: i64) {
-        match code.operands.first().and_then(|text| register(text)) {
+        let operand = code.operands.first().map(|text| text.to_ascii_lowercase());
+        match operand.and_then(|text| register(&text)) {
             Some((number, Part::Whole)) => self.take(number, code.address, bytes),
             _ => {
-                self.writes(code);
                 self.move_pointer(bytes, code.address);
+                self.writes(code);
             }
         }
+    }
+
+    fn leave(&mut self, at: u64, bytes: i64) {
+        let frame = self.registers[RBP].value;
+        if frame.is_on_stack() {
+            self.registers[RSP].value = frame;
+            return self.take(RBP, at, bytes);
+        }
+        self.set(RSP, Value::Unknown, at);
+        self.set(RBP, Value::Unknown, at);
     }
 
     /// Take the top of the stack into a register.
     fn take(&mut self, number: usize, at: u64, bytes: i64) {
         let value = self
             .top()
-            .map_or(Value::Unknown, |top| self.read(&top, bytes));
+            .map_or(Value::Unknown, |top| self.memory.read(&top, bytes));
         self.move_pointer(bytes, at);
         self.set(number, value, at);
     }
@@ -238,7 +284,7 @@ impl Machine {
 
     fn move_pointer(&mut self, bytes: i64, at: u64) {
         if let Value::Stack(base, offset) = self.pointer() {
-            self.registers[RSP].value = Value::Stack(base, offset + bytes);
+            self.registers[RSP].value = Value::Stack(base, offset.wrapping_add(bytes));
         }
         self.settle(at);
     }
@@ -246,29 +292,29 @@ impl Machine {
     /// A stack pointer that is not known is one of its own.
     fn settle(&mut self, at: u64) {
         let pointer = &mut self.registers[RSP];
-        if !matches!(pointer.value, Value::Stack(..)) {
+        if !pointer.value.is_on_stack() {
             pointer.value = Value::Stack(Version::Behind(at, self.visit), 0);
         }
     }
 
-    /// A call keeps what the calling convention says is kept: `rbx`,
-    /// `rbp`, `rsi`, `rdi`, its caller's places of the stack and the
-    /// control word.
+    /// A call keeps what the calling convention says is kept: registers
+    /// but those that it may lose, its caller's places of the stack and
+    /// the control word.
     fn call(&mut self, code: &Code, calls: &dyn Calls) {
         let at = code.address;
-        for number in [RAX, RCX, RDX] {
+        if code.is_call_to_next() {
+            // It is no call: it pushes its own address, for a `pop`.
+            return self.push_value(Value::Unknown, calls.word(), at);
+        }
+        let lost: &[usize] = if calls.word() == 8 {
+            &LOST_64
+        } else {
+            &LOST_32
+        };
+        for &number in lost {
             self.set(number, Value::Unknown, at);
         }
-        let pointer = self.pointer();
-        let escaped = self.escaped;
-        self.memory.retain(|place, stored| {
-            stored.crossed = stored.crossed.or(Some(at));
-            let below = match (pointer, place.stack) {
-                (Value::Stack(base, offset), Some(stack)) => base != stack || place.offset < offset,
-                _ => true,
-            };
-            !escaped && place.is_on_stack() && !below
-        });
+        self.memory.call(self.pointer(), at);
         match calls.cleaned(code) {
             Some(bytes) => self.move_pointer(bytes, at),
             None => {
@@ -279,31 +325,26 @@ impl Machine {
     }
 
     fn x87(&mut self, code: &Code) {
-        let Some(text) = code.operands.first() else {
-            return;
-        };
-        if code.name.ends_with("stsw") && register(text).is_some() {
-            self.set(RAX, Value::Unknown, code.address);
+        let operand = code.operands.first().map(|text| text.to_ascii_lowercase());
+        if operand
+            .as_deref()
+            .is_some_and(|text| register(text).is_some())
+        {
+            // `fnstsw ax` writes the one register that x87 code does.
+            return self.set(RAX, Value::Unknown, code.address);
         }
-        let Some(text) = memory(text) else { return };
-        let place = self.place(&text, code);
+        let text = operand.as_deref().and_then(memory);
+        let place = text.as_ref().and_then(|text| self.place(text, code));
         if code.name == "fldcw" {
-            let stored = place.and_then(|place| self.memory.get(&place).copied());
-            let (word, crossed) = match stored {
-                Some(Stored {
-                    value: Value::Word(word),
-                    bytes,
-                    crossed,
-                }) if bytes >= 2 => (word, crossed),
-                _ => (Word::UNKNOWN, None),
-            };
-            self.load_control(word, code.address, crossed);
-        } else if effects::stores(code) {
+            let value = place.map_or(Value::Unknown, |place| self.memory.read(&place, 2));
+            self.load_control(value.word(), code.address);
+        } else if effects::stores(code) && operand.is_some_and(|text| !text.starts_with("st")) {
             let value = match code.name.as_str() {
                 "fnstcw" | "fstcw" => Value::Word(self.control),
                 _ => Value::Unknown,
             };
-            self.write(place, bytes(&text), value, code.address);
+            let bytes = text.map_or(0, |text| bytes(&text));
+            self.memory.write(place, bytes, value, code.address);
         }
     }
 
@@ -311,19 +352,23 @@ impl Machine {
     fn moves(&mut self, code: &Code) {
         let value = match (code.name.as_str(), code.operands.get(1)) {
             ("lea", Some(text)) => self.effective(text, code),
+            ("movzx", _) => self.operand(code, 1).half(),
             _ => self.operand(code, 1),
         };
         let to_frame = matches!(
             code.operands.first().and_then(|t| register(t)),
             Some((RBP | RSP, _))
         );
-        self.escaped |= matches!(value, Value::Stack(..)) && !to_frame;
+        if value.is_on_stack() && !to_frame {
+            self.memory.hand_out();
+        }
         self.put(code, 0, value);
     }
 
     /// The address that `lea` gives.
     fn effective(&self, text: &str, code: &Code) -> Value {
-        let place = memory(text).and_then(|text| self.place(&text, code));
+        let text = memory(text).map(|text| text.replace("+eiz*1", "").replace("+riz*1", ""));
+        let place = text.and_then(|text| self.place(&text, code));
         match place {
             Some(place) if place.is_on_stack() => {
                 let base = place.stack.expect("it is on the stack");
@@ -340,7 +385,7 @@ impl Machine {
             return self.put(code, 0, Value::Word(Word::constant(0)));
         }
         let constant = code.operands.get(1).and_then(|text| immediate(text));
-        let Some(constant) = constant else {
+        let Some(constant) = constant.filter(|_| code.relocation.is_none()) else {
             return self.put(code, 0, Value::Unknown);
         };
         let signed = constant.cast_signed();
@@ -351,10 +396,15 @@ impl Machine {
             None => (bits, u16::MAX),
         };
         let old = self.whole(code);
-        let word = word_of(old);
+        let word = old.word();
+        let all = code.operands.first().is_some_and(|text| is_whole(text));
         let value = match (code.name.as_str(), old) {
-            ("add", Value::Stack(base, offset)) => Value::Stack(base, offset + low(signed)),
-            ("sub", Value::Stack(base, offset)) => Value::Stack(base, offset - low(signed)),
+            ("add", Value::Stack(base, offset)) if all => {
+                Value::Stack(base, offset.wrapping_add(low(signed)))
+            }
+            ("sub", Value::Stack(base, offset)) if all => {
+                Value::Stack(base, offset.wrapping_sub(low(signed)))
+            }
             ("or", _) => Value::Word(word.or(bits)),
             ("and", _) => Value::Word(word.and(bits | !mask)),
             ("xor", _) => Value::Word(word.xor(bits)),
@@ -383,19 +433,7 @@ impl Machine {
     /// whether it is the lower or the upper one.
     fn holding(&self, code: &Code) -> Option<(Place, u32)> {
         let text = memory(code.operands.first()?)?;
-        let place = self.place(&text, code)?;
-        let below = Place {
-            offset: place.offset - 1,
-            ..place.clone()
-        };
-        let is_word = |place: &Place| {
-            let stored = self.memory.get(place);
-            stored.is_some_and(|stored| matches!(stored.value, Value::Word(_)))
-        };
-        if is_word(&place) {
-            return Some((place, 0));
-        }
-        is_word(&below).then_some((below, 1))
+        self.memory.holding(&self.place(&text, code)?)
     }
 
     /// The value of all that the first operand is a part of.
@@ -406,10 +444,8 @@ impl Machine {
         match register(&text.to_ascii_lowercase()) {
             Some((number, _)) => self.registers[number].value,
             None if width(text) == 8 => {
-                let held = self
-                    .holding(code)
-                    .and_then(|(place, _)| self.memory.get(&place));
-                held.map_or(Value::Unknown, |stored| stored.value)
+                let held = self.holding(code);
+                held.map_or(Value::Unknown, |(place, _)| self.memory.read(&place, 2))
             }
             None => self.operand(code, 0),
         }
@@ -423,8 +459,7 @@ impl Machine {
         }
         match self.holding(code) {
             Some((place, _)) if width(text) == 8 => {
-                let stored = self.memory.get_mut(&place).expect("it is held");
-                stored.value = value;
+                self.memory.change(&place, value);
             }
             _ => self.put(code, 0, value),
         }
@@ -437,11 +472,12 @@ impl Machine {
         };
         let lower = text.to_ascii_lowercase();
         match register(&lower) {
-            Some((number, Part::Whole | Part::Word)) => return self.registers[number].value,
+            Some((number, Part::Whole)) => return self.registers[number].value,
+            Some((number, Part::Word)) => return self.registers[number].value.half(),
             Some(_) => return Value::Unknown,
             None => {}
         }
-        if let Some(constant) = immediate(&lower) {
+        if let Some(constant) = immediate(&lower).filter(|_| code.relocation.is_none()) {
             let bits = u16::try_from(constant & 0xffff).expect("16 bits");
             return Value::Word(Word::constant(bits));
         }
@@ -449,19 +485,9 @@ impl Machine {
             return Value::Unknown;
         };
         let place = self.place(&text, code);
-        place.map_or(Value::Unknown, |place| self.read(&place, bytes(&text)))
-    }
-
-    fn read(&self, place: &Place, bytes: i64) -> Value {
-        match self.memory.get(place) {
-            Some(stored) if stored.bytes >= bytes => stored.value,
-            Some(Stored {
-                value: Value::Word(word),
-                bytes: 2..,
-                ..
-            }) if bytes >= 2 => Value::Word(*word),
-            _ => Value::Unknown,
-        }
+        place.map_or(Value::Unknown, |place| {
+            self.memory.read(&place, bytes(&text))
+        })
     }
 
     /// Write an operand.
@@ -477,9 +503,9 @@ impl Machine {
         }
         if let Some(text) = memory(text) {
             let place = self.place(&text, code);
-            self.write(place, bytes(&text), value, at);
-        } else if crate::address::in_segment(text) {
-            self.write(None, 0, value, at);
+            self.memory.write(place, bytes(&text), value, at);
+        } else if in_segment(text) {
+            self.memory.write(None, 0, value, at);
         }
     }
 
@@ -498,7 +524,7 @@ impl Machine {
             Part::High => (0xff00, 8),
             _ => (u16::MAX, 0),
         };
-        let old = word_of(self.registers[number].value);
+        let old = self.registers[number].value.word();
         let whole = match value {
             Value::Word(word) if mask == u16::MAX => Value::Word(word),
             Value::Word(word) => match word.is_constant() {
@@ -510,80 +536,59 @@ impl Machine {
         self.set(number, whole, at);
     }
 
-    /// Write memory; without a place it may be any.
-    fn write(&mut self, place: Option<Place>, bytes: i64, value: Value, at: u64) {
-        let escaped = self.escaped;
-        self.memory.retain(|old, stored| {
-            let Some(place) = &place else {
-                stored.crossed = stored.crossed.or(Some(at));
-                return old.is_on_stack() && !escaped;
-            };
-            if place.is_beside(old) {
-                return old.offset + stored.bytes <= place.offset
-                    || place.offset + bytes <= old.offset;
-            }
-            let apart = place.stack.is_some() != old.stack.is_some() && !escaped;
-            stored.crossed = stored.crossed.or(Some(at));
-            apart
-        });
-        if let Some(place) = place.filter(|_| is_worth_keeping(value, bytes)) {
-            let stored = Stored {
-                bytes,
-                value,
-                crossed: None,
-            };
-            self.memory.insert(place, stored);
-        }
-    }
-
     /// An instruction of which no more is known than what it writes.
     fn writes(&mut self, code: &Code) {
         for number in effects::operands(code) {
             self.put(code, number, Value::Unknown);
         }
+        if effects::writes_counted_bit(code) {
+            self.write_bit(code);
+        }
         for number in effects::registers(code) {
             self.set(number, Value::Unknown, code.address);
         }
         if effects::writes_anywhere(code) {
-            self.write(None, 0, Value::Unknown, code.address);
+            self.memory.write(None, 0, Value::Unknown, code.address);
         }
     }
 
-    /// An instruction of which nothing is known; one with vector registers
-    /// still leaves the control word alone.
+    /// A bit that a register counts is at a place with an index.
+    fn write_bit(&mut self, code: &Code) {
+        let Some(text) = code.operands.first().and_then(|text| memory(text)) else {
+            return;
+        };
+        let mut place = self.place(&text, code);
+        if let Some(place) = &mut place {
+            place.terms.push(Term {
+                name: code.operands[1].clone(),
+                version: Version::Behind(code.address, self.visit),
+                scale: 1,
+            });
+        }
+        self.memory
+            .write(place, bytes(&text), Value::Unknown, code.address);
+    }
+
+    /// An instruction of which nothing is known.
     fn anything(&mut self, code: &Code) {
         for number in 0..REGISTERS {
             self.set(number, Value::Unknown, code.address);
         }
-        self.memory.clear();
+        self.memory.forget();
         self.flags = [Writer::At(code.address); FLAGS];
         self.status = Writer::At(code.address);
-        if !effects::keeps_control(code) {
-            self.load_control(Word::UNKNOWN, code.address, None);
-        }
-    }
-}
-
-/// Whether a stored value may matter: an address on the stack, or what may
-/// be a control word. A constant of another size is none.
-fn is_worth_keeping(value: Value, bytes: i64) -> bool {
-    match value {
-        Value::Unknown => false,
-        Value::Word(word) => word != Word::UNKNOWN && (bytes == 2 || word.is_constant().is_none()),
-        Value::Stack(..) => true,
-    }
-}
-
-/// So much of a control word as a value is.
-fn word_of(value: Value) -> Word {
-    match value {
-        Value::Word(word) => word,
-        _ => Word::UNKNOWN,
+        self.disturbed = false;
+        self.load_control(Word::UNKNOWN, code.address);
     }
 }
 
 fn met(mine: Writer, other: Writer) -> Writer {
     if mine == other { mine } else { Writer::Several }
+}
+
+/// Whether an operand is all of a register.
+fn is_whole(text: &str) -> bool {
+    matches!(register(&text.to_ascii_lowercase()), Some((_, Part::Whole)))
 }
 
 /// The bytes that a push or a pop moves the stack pointer by.
@@ -595,10 +600,10 @@ fn entry_bytes(code: &Code, calls: &dyn Calls) -> i64 {
 }
 
 /// The bytes of a memory operand; where its size does not stand there, as
-/// many as any has.
+/// many as `fxsave` writes.
 fn bytes(text: &str) -> i64 {
     match width(text) {
-        0 => 108,
+        0 => 512,
         bits => i64::from(bits) / 8,
     }
 }

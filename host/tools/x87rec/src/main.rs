@@ -38,11 +38,14 @@ enum Asked {
 }
 
 fn main() -> ExitCode {
-    let (options, names) = match asked(env::args().skip(1)) {
+    let words = env::args_os()
+        .skip(1)
+        .map(|word| word.to_string_lossy().into_owned());
+    let (options, names) = match asked(words) {
         Ok(Asked::Print(text)) => return ended(write(text.as_bytes())),
         Ok(Asked::Run(options, names)) => (options, names),
         Err(why) => {
-            eprintln!("x87rec: {why}; x87rec --help says more");
+            say(&format!("{why}; x87rec --help says more"));
             return ExitCode::from(2);
         }
     };
@@ -54,11 +57,17 @@ fn main() -> ExitCode {
     ended(result)
 }
 
+/// Say something on standard error; where that cannot be, the status
+/// tells.
+fn say(words: &str) {
+    let _ = writeln!(io::stderr(), "x87rec: {words}");
+}
+
 fn ended(result: Result<(), String>) -> ExitCode {
     match result {
         Ok(()) => ExitCode::SUCCESS,
         Err(why) => {
-            eprintln!("x87rec: {why}");
+            say(&why);
             ExitCode::FAILURE
         }
     }
@@ -118,7 +127,7 @@ fn run(options: &Options, names: Option<&str>) -> Result<(), String> {
         fs::write(file, translated.notes.to_string()).map_err(|e| format!("{file}: {e}"))?;
     }
     write(&translated.bytes())?;
-    eprintln!("x87rec: {translated}");
+    say(&translated.to_string());
     Ok(())
 }
 

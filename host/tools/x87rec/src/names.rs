@@ -103,6 +103,8 @@ pub fn is_register(name: &str) -> bool {
 
 /// Whether a text names an MMX register, which is an x87 register.
 pub fn names_mmx(text: &str) -> bool {
-    text.split(|c: char| !c.is_ascii_alphanumeric())
+    let lower = text.to_ascii_lowercase();
+    lower
+        .split(|c: char| !c.is_ascii_alphanumeric())
         .any(|word| matches!(word.strip_prefix("mm"), Some(n) if n.parse::<u8>().is_ok()))
 }

@@ -1,6 +1,6 @@
 //! Operands, and the numbers of addresses and slots.
 
-use std::collections::BTreeMap;
+use std::collections::{BTreeMap, BTreeSet};
 
 use sleetgate::{Instruction, MOST_OPERANDS, Operand, Place as Numbers, TEXT};
 
@@ -72,21 +72,16 @@ impl Numbering {
         Operand::memory(width, numbers)
     }
 
-    /// What the address numbers stand for. Where a text would stand for
-    /// two places, it tells whose values its registers have.
+    /// What the address numbers stand for. Where a register stands there
+    /// with two values, each place tells which it is.
     pub fn texts(&self, pointer: &str) -> Vec<String> {
-        let mut plain: BTreeMap<String, usize> = BTreeMap::new();
-        for place in &self.places {
-            *plain.entry(place.text(pointer, false)).or_default() += 1;
+        let mut versions: BTreeMap<&str, BTreeSet<Version>> = BTreeMap::new();
+        for term in self.places.iter().flat_map(|place| &place.terms) {
+            versions.entry(&term.name).or_default().insert(term.version);
         }
-        let text = |place: &Place| {
-            let short = place.text(pointer, false);
-            if plain[&short] > 1 {
-                return place.text(pointer, true);
-            }
-            short
-        };
-        self.places.iter().map(text).collect()
+        let told = |name: &str| versions[name].len() > 1;
+        let texts = self.places.iter().map(|place| place.text(pointer, told));
+        texts.collect()
     }
 
     /// Whether a place is counted from the stack pointer on entry.

@@ -1,6 +1,7 @@
 //! One way through the code.
 
 use std::collections::{BTreeMap, BTreeSet, HashMap};
+use std::ops::Bound::{Excluded, Unbounded};
 
 use crate::Wrong;
 use crate::line::{Code, Line};
@@ -33,8 +34,33 @@ pub enum End {
     Leaves,
     /// A jump whose target the text does not tell.
     Indirect,
+    /// An instruction stops the processor.
+    Stops,
     /// The text has no line behind the last one.
     Off,
+}
+
+impl End {
+    /// What is said of the stack that follows.
+    pub fn words(self) -> String {
+        let other = "which is no return; the stack is then";
+        match self {
+            Self::Return => "the way ends here, at the return, with this stack".to_owned(),
+            Self::Again(line) => {
+                format!("the way comes to {line:x} again and ends here, {other}")
+            }
+            Self::Leaves => {
+                "the way leaves the code that was asked for and ends here, which is no \
+                             return: what is given back is decided there; the stack is then"
+                    .to_owned()
+            }
+            Self::Indirect => {
+                format!("goes where the text does not tell, and the way ends here, {other}")
+            }
+            Self::Stops => format!("stops the processor, and the way ends here, {other}"),
+            Self::Off => format!("the text ends behind this line, {other}"),
+        }
+    }
 }
 
 /// A way and its end.
@@ -44,19 +70,16 @@ pub struct Way {
 }
 
 /// The way from the first line on, on which these conditional jumps are
-/// taken.
+/// taken. No address stands there twice.
 pub fn follow(lines: Vec<Line>, takes: &[Take]) -> Result<Way, Wrong> {
-    let mut code = BTreeMap::new();
-    let mut first = None;
-    for line in lines {
-        let Line::Code(line) = line else { continue };
-        first = first.or(Some(line.address));
-        let (number, address) = (line.line, line.address);
-        if code.insert(address, line).is_some() {
-            let why = format!("{address:x} stands there twice");
-            return Err(Wrong { line: number, why });
-        }
-    }
+    let first = lines.iter().find_map(Line::code).map(|code| code.address);
+    let code: BTreeMap<u64, Code> = lines
+        .into_iter()
+        .filter_map(|line| match line {
+            Line::Code(code) => Some((code.address, code)),
+            _ => None,
+        })
+        .collect();
     let mut walk = Walk {
         code: &code,
         takes,
@@ -65,17 +88,11 @@ pub fn follow(lines: Vec<Line>, takes: &[Take]) -> Result<Way, Wrong> {
         steps: Vec::new(),
     };
     let end = walk.from(first);
-    let missed = takes.iter().find(|take| !walk.came_to(take.address));
-    match missed {
-        Some(take) => Err(Wrong {
-            line: 0,
-            why: format!("the way does not come to {:x}", take.address),
-        }),
-        None => Ok(Way {
-            steps: walk.steps,
-            end,
-        }),
-    }
+    walk.all_used()?;
+    Ok(Way {
+        steps: walk.steps,
+        end,
+    })
 }
 
 struct Walk<'a> {
@@ -107,6 +124,9 @@ impl Walk<'_> {
             if code.is_return() {
                 return End::Return;
             }
+            if code.is_stop() {
+                return End::Stops;
+            }
             at = if code.name == "jmp" || taken == Some(true) {
                 match code.target() {
                     Some(target) => Some(target),
@@ -114,9 +134,15 @@ impl Walk<'_> {
                     None => return End::Leaves,
                 }
             } else {
-                self.code.range(address + 1..).next().map(|(&next, _)| next)
+                self.below(address)
             };
         }
+    }
+
+    /// The line below, unless something was left out between.
+    fn below(&self, address: u64) -> Option<u64> {
+        let (&next, code) = self.code.range((Excluded(address), Unbounded)).next()?;
+        (!code.before.broken).then_some(next)
     }
 
     /// Whether a jump is taken this time. A decision that is listed lets
@@ -137,7 +163,28 @@ impl Walk<'_> {
         decision.unwrap_or(false)
     }
 
-    fn came_to(&self, address: u64) -> bool {
-        self.steps.iter().any(|step| step.code.address == address)
+    /// Whether the way came to each jump that is listed, as often as there
+    /// are decisions.
+    fn all_used(&self) -> Result<(), Wrong> {
+        for (at, take) in self.takes.iter().enumerate() {
+            let address = take.address;
+            let came = |step: &&Step| step.code.address == address && step.taken.is_some();
+            let times = self.steps.iter().filter(came).count();
+            let wanted = take.decisions.as_ref().map_or(1, Vec::len);
+            let why = if self.takes[..at]
+                .iter()
+                .any(|other| other.address == address)
+            {
+                format!("{address:x} is listed twice")
+            } else if times == 0 {
+                format!("the way does not come to a conditional jump at {address:x}")
+            } else if times < wanted {
+                format!("{wanted} decisions at {address:x}, and the way comes there {times} times")
+            } else {
+                continue;
+            };
+            return Err(Wrong { line: 0, why });
+        }
+        Ok(())
     }
 }

@@ -52,9 +52,9 @@ impl Place {
         sum(self) == sum(other)
     }
 
-    /// The text of a place; `told` says whether the versions of registers
-    /// are written.
-    pub fn text(&self, pointer: &str, told: bool) -> String {
+    /// The text of a place; `told` says of which registers the version is
+    /// written.
+    pub fn text(&self, pointer: &str, told: impl Fn(&str) -> bool) -> String {
         let mut sum: Vec<String> = Vec::new();
         if let Some(version) = self.stack {
             sum.push(match version {
@@ -64,7 +64,7 @@ impl Place {
         }
         sum.extend(self.symbol.clone());
         for term in &self.terms {
-            let version = if told {
+            let version = if told(&term.name) {
                 term.version.to_string()
             } else {
                 String::new()
@@ -106,18 +106,31 @@ pub fn sum(text: &str, code: &Code) -> Option<(Address, Option<String>)> {
     if let Some(relocation) = &code.relocation {
         return Some(relocated(sum, relocation, code));
     }
+    let own = |words: &str| Some(format!("{words} of {:x}", code.address));
     if sum.registers.iter().any(is_rip) {
         sum.registers.retain(|register| !is_rip(register));
-        let Some(place) = code.comment.and_then(|place| i64::try_from(place).ok()) else {
-            let own = format!("rip of {:x}", code.address);
-            return Some((sum, Some(own)));
-        };
-        sum.offset = place;
-    } else if sum.registers.is_empty() && (0..LINKED).contains(&sum.offset) {
-        let own = format!("unlinked of {:x}", code.address);
-        return Some((sum, Some(own)));
+        match code.comment.and_then(|place| i64::try_from(place).ok()) {
+            Some(place) => sum.offset = place,
+            None => return Some((sum, own("rip"))),
+        }
+    }
+    if is_unlinked(&sum, text) {
+        if text.contains("rip") {
+            sum.offset = 0;
+        }
+        return Some((sum, own("unlinked")));
     }
     Some((sum, None))
+}
+
+/// Whether an address has a number that no linker has put in yet: it is
+/// near zero without a base, or a zero is written that need not be.
+fn is_unlinked(sum: &Address, text: &str) -> bool {
+    let scaled = sum.registers.iter().all(|(_, scale)| *scale != 1);
+    let base = sum.registers.first().map(|(name, _)| name.as_str());
+    let needed = matches!(base, Some("ebp" | "rbp" | "r13"));
+    let written = text.replace(' ', "").ends_with("+0x0]") && !needed;
+    scaled && (0..LINKED).contains(&sum.offset) || written
 }
 
 /// The address that the linker makes.
@@ -127,14 +140,20 @@ fn relocated(mut sum: Address, relocation: &Relocation, code: &Code) -> (Address
     let behind = code
         .next
         .map_or(0, |next| next.wrapping_sub(relocation.place));
-    sum.offset += added;
+    sum.offset = sum.offset.wrapping_add(added);
     let of_rip = sum.registers.iter().any(|(name, _)| name == "rip");
     if of_rip {
         sum.registers.retain(|(name, _)| name != "rip");
-        sum.offset = added + i64::try_from(behind).unwrap_or_default();
+        sum.offset = added.wrapping_add(behind.cast_signed());
     }
-    let plain = ["R_386_32", "R_X86_64_32", "R_X86_64_32S"].contains(&kind)
-        || of_rip && kind == "R_X86_64_PC32";
+    let absolute = [
+        "R_386_32",
+        "R_X86_64_32",
+        "R_X86_64_32S",
+        "dir32",
+        "IMAGE_REL_I386_DIR32",
+    ];
+    let plain = absolute.contains(&kind) || of_rip && kind == "R_X86_64_PC32";
     let symbol = if plain {
         symbol.to_owned()
     } else {

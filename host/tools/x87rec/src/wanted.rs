@@ -102,17 +102,19 @@ fn nearest(lines: &[Line], wanted: &str) -> String {
 /// How many letters have to be put in, left out or changed.
 fn distance(a: &str, b: &str) -> usize {
     let b: Vec<char> = b.chars().collect();
-    let mut row: Vec<usize> = (0..=b.len()).collect();
-    for (i, x) in a.chars().enumerate() {
-        let mut corner = row[0];
-        row[0] = i + 1;
-        for (j, y) in b.iter().enumerate() {
-            let changed = corner + usize::from(x != *y);
-            corner = row[j + 1];
-            row[j + 1] = changed.min(row[j] + 1).min(corner + 1);
-        }
+    let first: Vec<usize> = (0..=b.len()).collect();
+    let last = a.chars().fold(first, |row, letter| next(&row, letter, &b));
+    last[b.len()]
+}
+
+/// The distances of one letter more from each beginning of a name.
+fn next(row: &[usize], letter: char, name: &[char]) -> Vec<usize> {
+    let mut next = vec![row[0] + 1];
+    for (at, other) in name.iter().enumerate() {
+        let changed = row[at] + usize::from(letter != *other);
+        next.push(changed.min(row[at + 1] + 1).min(next[at] + 1));
     }
-    row[b.len()]
+    next
 }
 
 #[cfg(test)]

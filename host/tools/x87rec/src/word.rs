@@ -14,6 +14,9 @@ pub struct Word {
     known: u16,
     value: u16,
     entry: u16,
+    /// From where on a store through a pointer may have changed the word
+    /// where it was kept.
+    pub crossed: Option<u64>,
 }
 
 /// How results are rounded.
@@ -31,6 +34,7 @@ impl Word {
         known: 0,
         value: 0,
         entry: u16::MAX,
+        crossed: None,
     };
 
     /// A word of which nothing is known.
@@ -38,6 +42,7 @@ impl Word {
         known: 0,
         value: 0,
         entry: 0,
+        crossed: None,
     };
 
     /// The word that a reset loads.
@@ -48,6 +53,7 @@ impl Word {
             known: u16::MAX,
             value,
             entry: 0,
+            crossed: None,
         }
     }
 
@@ -57,6 +63,7 @@ impl Word {
             known: self.known | bits,
             value: self.value | bits,
             entry: self.entry & !bits,
+            crossed: self.crossed,
         }
     }
 
@@ -66,6 +73,7 @@ impl Word {
             known: self.known | !bits,
             value: self.value & bits,
             entry: self.entry & bits,
+            crossed: self.crossed,
         }
     }
 
@@ -75,12 +83,21 @@ impl Word {
             known: self.known,
             value: (self.value ^ bits) & self.known,
             entry: self.entry & !bits,
+            crossed: self.crossed,
         }
     }
 
     /// The word with the bits of a mask replaced.
     pub fn with(self, mask: u16, bits: u16) -> Self {
         self.and(!mask).or(bits & mask)
+    }
+
+    /// The word, kept where this may have changed it.
+    pub fn across(self, store: Option<u64>) -> Self {
+        Self {
+            crossed: self.crossed.or(store),
+            ..self
+        }
     }
 
     /// What is known whichever of two words it is.
@@ -90,6 +107,7 @@ impl Word {
             known,
             value: self.value & known,
             entry: self.entry & other.entry,
+            crossed: self.crossed.or(other.crossed),
         }
     }
 

@@ -3,17 +3,18 @@
 use std::collections::HashMap;
 
 use notes::{Event, Notes, Record, What};
-use sleetgate::{Instruction, write_record};
+use sleetgate::{Instruction, Operand, Place as Numbers, write_record};
 
 use crate::control::{Verdict, loaded, verdict};
-use crate::effects::{FLAG_COMPARES, FLAG_NAMES, is_x87, reads, reads_status};
+use crate::effects::{FLAG_COMPARES, FLAG_NAMES, is_x87, reads, reads_status, stores};
 use crate::flow::Callees;
 use crate::line::Code;
-use crate::machine::{Calls, Machine, Writer};
+use crate::machine::{Calls, Change, Machine, Writer};
 use crate::operand::Numbering;
 use crate::passing::passes;
-use crate::path::{End, Step, Way};
-use crate::{Options, Translated, Wrong};
+use crate::path::{Step, Way};
+use crate::place::Place;
+use crate::{MOST_BYTES, Options, Translated, Wrong};
 
 /// The name of a record that stands for an entry from elsewhere.
 const ENTRY: &str = "entry";
@@ -32,56 +33,59 @@ const CONTROL: [&str; 3] = ["fldcw", "fnstcw", "fstcw"];
 
 pub struct Work<'a> {
     done: Translated,
+    /// Bytes of records so far.
+    bytes: usize,
     numbering: Numbering,
     /// Whether the lifter has no stack to carry on: at the beginning, and
     /// after a record that it is sure to decline.
     forgotten: bool,
-    /// Whether the next instruction does not follow on the last, and the
-    /// symbol that stands before it.
-    broken: bool,
-    symbol: Option<String>,
     /// Whether a call was met.
     called: bool,
     names: HashMap<u64, &'a str>,
+    /// The places that x87 instructions name, and their bytes; those of
+    /// control words are left out.
+    used: Vec<(Place, i64)>,
     callees: &'a Callees,
     options: &'a Options,
 }
 
 impl<'a> Work<'a> {
-    pub fn new(
+    pub fn new<'b>(
         options: &'a Options,
         callees: &'a Callees,
-        code: impl Iterator<Item = &'a Code>,
+        code: impl Iterator<Item = (&'a Code, &'b Machine)> + Clone,
     ) -> Self {
+        let counts = |name: &str| is_x87(name) && !CONTROL.contains(&name);
+        let x87 = code.clone().filter(|(code, _)| counts(&code.name));
+        let mut used: Vec<_> = x87
+            .flat_map(|(code, machine)| machine.places(code))
+            .collect();
+        used.sort_unstable();
+        used.dedup();
         Self {
             done: Translated::default(),
+            bytes: 0,
             numbering: Numbering::default(),
             forgotten: true,
-            broken: false,
-            symbol: None,
             called: false,
             names: code
-                .map(|code| (code.address, code.name.as_str()))
+                .map(|(code, _)| (code.address, code.name.as_str()))
                 .collect(),
+            used,
             callees,
             options,
         }
     }
 
-    /// The next instruction does not follow on the last.
-    pub fn broken(&mut self, symbol: Option<&str>) {
-        self.broken = true;
-        self.symbol = symbol.map(str::to_owned);
-    }
-
     /// A line of the whole text.
     pub fn line(&mut self, code: &Code, machine: &Machine, target: bool) -> Result<(), Wrong> {
-        let entered = std::mem::take(&mut self.broken) || target;
+        let before = &code.before;
+        let entered = before.broken || before.symbol.is_some() || target;
         if entered && !self.forgotten {
             self.entry(code.address);
         }
-        if let Some(symbol) = self.symbol.take() {
-            self.event(code.address, What::Begin(symbol));
+        if let Some(name) = &before.symbol {
+            self.event(code.address, What::Begin(name.clone()));
         }
         if code.is_return() {
             self.stack(code, "a return, with this stack");
@@ -98,6 +102,14 @@ impl<'a> Work<'a> {
     /// A line of a way.
     pub fn step(&mut self, step: &Step, machine: &Machine) -> Result<(), Wrong> {
         let code = &step.code;
+        let what = match &code.before.symbol {
+            Some(name) if self.done.lines == 0 => Some(What::Begin(name.clone())),
+            Some(name) => Some(What::Remark(format!("the way goes on in {name}"))),
+            None => None,
+        };
+        if let Some(what) = what {
+            self.event(code.address, what);
+        }
         match step.taken {
             Some(true) => self.remark(code, "taken"),
             Some(false) => self.remark(code, "not taken"),
@@ -108,26 +120,52 @@ impl<'a> Work<'a> {
 
     fn code(&mut self, code: &Code, machine: &Machine, followed: bool) -> Result<(), Wrong> {
         self.done.lines += 1;
-        let jumps = code.name.starts_with('j') && !code.is_indirect() || code.is_conditional();
-        let goes_on = followed && (jumps || code.is_return());
+        let jumps = code.name.starts_with('j') || code.is_conditional();
+        let goes_on = followed && (jumps || code.is_return() || code.is_stop());
         let control = CONTROL.contains(&code.name.as_str()) && !self.options.assume_reset;
         let passes = goes_on || control || passes(&code.name, &code.operands);
         if code.name == "fldcw" && control {
             self.loads(code, machine);
         }
         if passes && !self.options.every {
+            self.overwrites(code, machine);
             *self.done.passed.entry(code.name.clone()).or_default() += 1;
             return Ok(());
         }
         self.record(code, machine)
     }
 
+    /// Say that integer code writes where x87 instructions read or write.
+    fn overwrites(&mut self, code: &Code, machine: &Machine) {
+        let written = machine.written(code, self.callees);
+        let overlaps = |(place, bytes): &&(Place, i64)| {
+            written.iter().any(|(other, more)| {
+                place.is_beside(other)
+                    && place.offset < other.offset.saturating_add(*more)
+                    && other.offset < place.offset.saturating_add(*bytes)
+            })
+        };
+        let pointer = self.pointer();
+        let named = self.used.iter().filter(overlaps);
+        let mut places: Vec<String> = named
+            .map(|(place, _)| place.text(pointer, |_| true))
+            .collect();
+        places.dedup();
+        if !places.is_empty() {
+            let words = format!("writes to {}, which is not lifted", places.join(", "));
+            self.remark(code, &words);
+        }
+    }
+
     /// Hand an instruction over, as what it is under the control word.
     fn record(&mut self, code: &Code, machine: &Machine) -> Result<(), Wrong> {
         let mut insn = self.numbering.instruction(code, machine)?;
+        let writes = stores(code)
+            .then(|| insn.operands.first().and_then(number))
+            .flatten();
         let mut why = None;
         if !self.options.assume_reset {
-            match verdict(code, machine.control, machine.changed) {
+            match verdict(code, machine.control, &self.since(machine.changed)) {
                 Verdict::AsIs => {}
                 Verdict::Truncates(name) => {
                     let words = format!("rounds toward zero here, and is lifted as {name}");
@@ -144,16 +182,48 @@ impl<'a> Work<'a> {
             bytes: bytes(&insn),
             text: code.text(),
             why,
+            writes,
             reads: self.reads(code, machine),
         };
         // All names that the lifter models begin with an `f`.
         self.forgotten = !insn.mnemonic.starts_with('f');
+        self.fits(record.bytes.len())?;
         self.event(code.address, What::Record(record));
         if code.is_call() {
             self.called = true;
             self.doubt(code);
         }
         Ok(())
+    }
+
+    /// Whether `x87lift` takes so many bytes more, and the end mark.
+    fn fits(&mut self, more: usize) -> Result<(), Wrong> {
+        self.bytes += more;
+        if self.bytes + 2 <= MOST_BYTES {
+            return Ok(());
+        }
+        let why = format!(
+            "more records than the {MOST_BYTES} bytes that x87lift takes: \
+             take one function (--function) or one way (--path)"
+        );
+        Err(Wrong { line: 0, why })
+    }
+
+    /// Since when the control word may be another than that of the entry.
+    fn since(&self, change: Option<Change>) -> String {
+        match change {
+            None => String::new(),
+            Some(Change::Meeting(line)) => {
+                format!(", since the control word differs by the way to {line:x}")
+            }
+            Some(Change::At(address)) => match self.names.get(&address) {
+                Some(&"fldcw") => format!(", since fldcw at {address:x} loaded the control word"),
+                Some(name) => {
+                    format!(", since {name} at {address:x} may have changed the control word")
+                }
+                None => String::new(),
+            },
+        }
     }
 
     /// Who wrote what an instruction reads.
@@ -167,7 +237,10 @@ impl<'a> Work<'a> {
             }
         }
         if reads_status(&code.name) {
-            let words = self.written(machine.status, &STATUS_COMPARES);
+            let mut words = self.written(machine.status, &STATUS_COMPARES);
+            if machine.disturbed {
+                words += ", C1, TOP and exceptions aside";
+            }
             all.push(("fsw".to_owned(), words));
         }
         all
@@ -198,8 +271,8 @@ impl<'a> Work<'a> {
         let mut behind = machine.clone();
         behind.step(code, self.callees);
         let mut words = loaded(behind.control);
-        if let Some(crossed) = behind.crossed {
-            words += &format!(", if {crossed:x} did not write where that word is kept");
+        if let Some(crossed) = behind.control.crossed {
+            words += &format!(", if no store from {crossed:x} on went where that word was kept");
         }
         self.remark(code, &words);
     }
@@ -230,21 +303,7 @@ impl<'a> Work<'a> {
         let Some(last) = way.steps.last() else {
             return;
         };
-        let words = match way.end {
-            End::Return => "the way ends here, at the return, with this stack".to_owned(),
-            End::Again(line) => format!(
-                "the way comes to {line:x} again and ends here, which is no return; the stack is then"
-            ),
-            End::Leaves => "the way leaves the code that was asked for and ends here, which is no \
-                            return: what is given back is decided there; the stack is then"
-                .to_owned(),
-            End::Indirect => "goes where the text does not tell, and the way ends here, which is \
-                              no return; the stack is then"
-                .to_owned(),
-            End::Off => {
-                "the text ends behind this line, which is no return; the stack is then".to_owned()
-            }
-        };
+        let words = way.end.words();
         self.stack(&last.code, &words);
     }
 
@@ -262,6 +321,7 @@ impl<'a> Work<'a> {
             bytes: bytes(&entry),
             text: String::new(),
             why: Some("entered from elsewhere".to_owned()),
+            writes: None,
             reads: Vec::new(),
         };
         self.event(address, What::Record(record));
@@ -285,37 +345,8 @@ impl<'a> Work<'a> {
 
     /// The translation, with these words on what was followed.
     pub fn done(mut self, followed: &str) -> Translated {
-        let pointer = self.pointer();
-        let mut head = vec![if self.options.assume_reset {
-            "assume-reset: every rounding is shown as to nearest even with extended precision, \
-             whatever the code loads into the control word"
-                .to_owned()
-        } else {
-            "assumed: on entry the control word rounds to nearest even with extended precision \
-             (64 bits); with another word no formula here need hold"
-                .to_owned()
-        }];
-        head.push(followed.to_owned());
-        let addresses = self.numbering.texts(pointer);
-        if self.numbering.names_entry() {
-            head.push(format!(
-                "{pointer}0 is the stack pointer on entry, where the return address is"
-            ));
-        }
-        if addresses.iter().any(|text| text.contains('@')) {
-            head.push(
-                "a register @ an address is as the instruction there left it, #2 at its second \
-                 turn; @@ as it is on coming there"
-                    .to_owned(),
-            );
-        }
-        if self.called {
-            head.push(
-                "calls are taken to keep what the calling convention keeps: the control word, \
-                 rbx, rbp, rsi, rdi, and their caller's places on the stack"
-                    .to_owned(),
-            );
-        }
+        let addresses = self.numbering.texts(self.pointer());
+        let head = self.head(followed, &addresses);
         self.done.notes = Notes {
             failed: None,
             head,
@@ -323,6 +354,51 @@ impl<'a> Work<'a> {
             events: self.done.notes.events,
         };
         self.done
+    }
+
+    /// What holds for the whole text.
+    fn head(&self, followed: &str, addresses: &[String]) -> Vec<String> {
+        let pointer = self.pointer();
+        let word = if self.options.assume_reset {
+            "assume-reset: every rounding is shown as to nearest even with extended precision, \
+             whatever the code loads into the control word"
+        } else {
+            "assumed: on entry the control word rounds to nearest even with extended precision \
+             (64 bits); with another word no formula here need hold"
+        };
+        let mut head = vec![word.to_owned(), followed.to_owned()];
+        if self.numbering.names_entry() {
+            head.push(format!(
+                "{pointer}0 is the stack pointer on entry, where the return address is"
+            ));
+        }
+        if addresses.iter().any(|text| text.contains('@')) {
+            let words = "a register @ an address is as the instruction there left it, #2 at its \
+                         second turn; @@ as it is on coming there";
+            head.push(words.to_owned());
+        }
+        if self.called {
+            let kept = match pointer {
+                "rsp" => "rbx, rbp, r12 to r15",
+                _ => "ebx, ebp, esi, edi",
+            };
+            head.push(format!(
+                "calls are taken to keep what the calling convention keeps: the control word, \
+                 their caller's places on the stack, and {kept}"
+            ));
+        }
+        head
+    }
+}
+
+/// The address number of a memory operand, 0 where it is not known.
+fn number(operand: &Operand) -> Option<u32> {
+    match operand {
+        Operand::Memory { place, .. } => Some(match place {
+            Numbers::Unknown => 0,
+            Numbers::Address(address) | Numbers::Slot { address, .. } => *address,
+        }),
+        _ => None,
     }
 }
 

@@ -68,7 +68,7 @@ fn other_roundings_are_declined_and_named() {
     let floor = ["movzx eax,WORD PTR [esp+0x6]", "and ah,0xf3", "or ah,0x4"];
     let told = idiom(&floor, &["frndint", "fistp DWORD PTR [esp]"]);
     assert_eq!(named(&told), ["?frndint", "?fistp", "fadd"]);
-    let expected = "it rounds down, as floor does, since the control word was changed at 60";
+    let expected = "it rounds down, as floor does, since fldcw at 60 loaded the control word";
     assert_eq!(
         reasons(&told),
         [format!("70 {expected}"), format!("80 {expected}")]
@@ -133,6 +133,9 @@ fn a_word_from_elsewhere_is_not_known() {
         "fldenv [eax]",
         "frstor [eax]",
         "call 5000 <fesetround@plt>",
+        "call 5000 <__imp__controlfp>",
+        "fldcw WORD PTR gs:0x10",
+        "fldcw cw",
         "int 0x80",
         "frobnicate",
     ];
@@ -142,8 +145,8 @@ fn a_word_from_elsewhere_is_not_known() {
             let last = named(&told).pop().expect("a record");
             assert!(last.starts_with('?'), "{change} {line}: {last}");
             let why = reasons(&told).pop().expect("a reason");
-            let unknown = "10 its rounding is not known, since the control word was changed at 0";
-            assert_eq!(why, unknown);
+            let begin = "10 its rounding is not known, since ";
+            assert!(why.starts_with(begin) && why.contains(" at 0 "), "{why}");
         }
     }
     for kept in [
@@ -178,6 +181,16 @@ fn precision_counts_for_what_computes() {
 }
 
 #[test]
+fn a_constant_word_can_be_pushed() {
+    let told = way(&[
+        "push 0xf7f",
+        "fldcw WORD PTR [esp]",
+        "fistp DWORD PTR [ecx]",
+    ]);
+    assert_eq!(named(&told), ["fisttp"]);
+}
+
+#[test]
 fn a_stored_word_that_may_have_changed_is_not_taken() {
     let saved = |between: &'static [&'static str]| {
         let mut lines = vec!["sub esp,0xc", "fnstcw WORD PTR [esp+0x6]"];
@@ -207,7 +220,7 @@ fn a_stored_word_that_may_have_changed_is_not_taken() {
     // A store through a pointer is told beside the word.
     let words = remarks(&saved(&["mov DWORD PTR [ecx],edx"]));
     let expected = "30 fldcw WORD PTR [esp+0x6]: from here on the control word is that of the \
-                    entry, if 20 did not write where that word is kept";
+                    entry, if no store from 20 on went where that word was kept";
     assert_eq!(words[0], expected);
 }
 
@@ -233,5 +246,62 @@ fn in_a_whole_text_all_ways_count() {
     assert_eq!(
         named(&told),
         ["?fadd", "?fadd", "ret", "fadd"].map(str::to_owned)
+    );
+}
+
+/// The last name on a way that ends in `fldcw` of `[esp-0x4]` and an
+/// addition.
+fn behind(lines: &[&'static str]) -> String {
+    let mut all = lines.to_vec();
+    all.extend(["fldcw WORD PTR [esp-0x4]", "fadd st,st(1)"]);
+    named(&way(&all)).pop().expect("a record")
+}
+
+#[test]
+fn a_part_of_a_word_is_not_the_word() {
+    let store = "fnstcw WORD PTR [esp-0x2]";
+    let put = "mov WORD PTR [esp-0x4],ax";
+    assert_eq!(
+        behind(&[store, "movzx eax,WORD PTR [esp-0x2]", put]),
+        "fadd"
+    );
+    assert_eq!(
+        behind(&[store, "movzx eax,BYTE PTR [esp-0x2]", put]),
+        "?fadd"
+    );
+    assert_eq!(behind(&[store, "mov al,BYTE PTR [esp-0x2]", put]), "?fadd");
+    assert_eq!(
+        behind(&["fnstcw WORD PTR [esp]", "pop DWORD PTR [esp-0x4]"]),
+        "?fadd"
+    );
+    assert_eq!(
+        behind(&["fnstcw WORD PTR [esp-0x4]", "bts DWORD PTR [esp-0x40],eax"]),
+        "?fadd"
+    );
+    assert_eq!(
+        behind(&["fnstcw WORD PTR [esp-0x4]", "bts DWORD PTR [esp-0x40],0x3"]),
+        "fadd"
+    );
+    assert_eq!(
+        behind(&["fnstcw WORD PTR [esp-0x4]", "fxsave [esp-0x100]"]),
+        "?fadd"
+    );
+    let relocated = "0 mov WORD PTR [esp-0x4],0x37f\n2: R_386_16 x\n8 fldcw WORD PTR [esp-0x4]\n\
+                     c fadd st,st(1)\n";
+    assert_eq!(named(&with(relocated, &path(&[]))), ["?fadd"]);
+}
+
+#[test]
+fn what_a_word_was_kept_across_is_not_lost_when_it_is_moved() {
+    let words = remarks(&way(&[
+        "fnstcw WORD PTR [esp-0x2]",
+        "mov DWORD PTR [ecx],edx",
+        "mov ax,WORD PTR [esp-0x2]",
+        "mov WORD PTR [esp-0x4],ax",
+        "fldcw WORD PTR [esp-0x4]",
+    ]));
+    assert!(
+        words[0].ends_with("if no store from 10 on went where that word was kept"),
+        "{words:?}"
     );
 }

@@ -92,9 +92,18 @@ fn a_call_that_took_nothing_is_known_by_the_return() {
 }
 
 #[test]
+fn a_call_to_the_next_line_pushes() {
+    let lines = "0 call 5\n5 pop ebx\n6 fld DWORD PTR [esp+0x4]\n8 fld DWORD PTR [ebx]\na ret\n";
+    assert_eq!(places(&with(lines, &path(&[]))), ["[esp0+0x4]", "[ebx]"]);
+}
+
+#[test]
 fn a_call_into_the_text_takes_what_its_returns_say() {
     let lines = "0 push eax\n2 call 20\n4 fld DWORD PTR [esp]\n6 jmp eax\n20 nop\n22 ret 0x4\n";
     assert_eq!(places(&with(lines, &path(&[]))), ["[esp0]"]);
+    let named = "0 push eax\n2 call 3\n3: R_386_PC32 g\n7 fld DWORD PTR [esp]\n9 jmp eax\n\
+                 00000020 <g>:\n20 ret 0x4\n";
+    assert_eq!(places(&with(named, &path(&[]))), ["[esp0]"]);
     let long = "0 push rax\n2 call 900\n4 fld QWORD PTR [rsp+0x8]\n6 jmp rax\n";
     assert_eq!(places(&with(long, &path(&[]))), ["[rsp0]"]);
 }
@@ -164,5 +173,159 @@ fn a_segment_or_an_odd_address_is_not_known() {
         "ds fld DWORD PTR [eax]",
     ] {
         assert_eq!(on_way(&[line]), ["unknown"], "{line}");
+    }
+}
+
+#[test]
+fn integer_code_that_writes_where_x87_code_reads_is_told() {
+    let lines = [
+        "mov DWORD PTR [esp+0x8],eax",
+        "fld QWORD PTR [esp+0x4]",
+        "mov BYTE PTR [esp+0xb],al",
+        "mov BYTE PTR [esp+0xc],al",
+        "cmp DWORD PTR [esp+0x8],eax",
+        "push eax",
+        "fstp DWORD PTR [esp]",
+        "inc DWORD PTR [ecx]",
+        "fld DWORD PTR [ecx]",
+    ];
+    let told: Vec<String> = remarks(&with(&text(&lines), &path(&[])));
+    let expected = [
+        "0 mov DWORD PTR [esp+0x8], eax: writes to [esp0+0x4], which is not lifted",
+        "20 mov BYTE PTR [esp+0xb], al: writes to [esp0+0x4], which is not lifted",
+        "50 push eax: writes to [esp0-0x4], which is not lifted",
+        "70 inc DWORD PTR [ecx]: writes to [ecx], which is not lifted",
+    ];
+    assert_eq!(told[..4], expected);
+    assert_eq!(told.len(), 5);
+}
+
+#[test]
+fn where_a_declined_store_goes_is_told() {
+    let lines = [
+        "fldcw WORD PTR [eax]",
+        "fistp DWORD PTR [esp+0x4]",
+        "fbstp TBYTE PTR gs:0x14",
+    ];
+    let told = with(&text(&lines), &path(&[]));
+    let writes: Vec<_> = told
+        .notes
+        .records()
+        .map(|(_, record)| record.writes)
+        .collect();
+    assert_eq!(writes, [Some(1), Some(0)]);
+    assert_eq!(told.notes.addresses, ["[esp0+0x4]"]);
+}
+
+#[test]
+fn a_part_of_a_stack_address_is_none() {
+    for line in ["movzx ebx,sp", "mov bx,sp", "mov ebx,DWORD PTR [esp]"] {
+        let lines = ["push ax", line, "fld DWORD PTR [ebx]"];
+        assert_eq!(on_way(&lines), ["[ebx]"], "{line}");
+    }
+    let added = ["lea eax,[esp+0x8]", "add ah,0x4", "fld DWORD PTR [eax]"];
+    assert_eq!(on_way(&added), ["[eax]"]);
+}
+
+#[test]
+fn the_stack_pointer_behind_leave_and_pop_is_counted_from_there() {
+    let leave = [
+        "mov ebp,DWORD PTR [esp+0x4]",
+        "leave",
+        "fld DWORD PTR [esp]",
+    ];
+    assert_eq!(on_way(&leave), ["[esp@10]"]);
+    assert_eq!(on_way(&["pop sp", "fld DWORD PTR [esp]"]), ["[esp@0]"]);
+    let string = "movsd dword ptr es:[edi], dword ptr [esi]";
+    let moved = ["fld DWORD PTR [edi]", string, "fld DWORD PTR [edi]"];
+    assert_eq!(on_way(&moved), ["[edi]", "[edi@10]"]);
+}
+
+#[test]
+fn huge_constants_wrap() {
+    let add = "add esp,0x7fffffffffffffff";
+    assert_eq!(on_way(&[add, add, "fld DWORD PTR [esp+0x2]"]), ["[esp0]"]);
+    let far = [
+        "fnstcw WORD PTR [esp+0x7fffffffffffffff]",
+        "fnstcw WORD PTR [esp]",
+        "fld1",
+    ];
+    assert_eq!(on_way(&far), Vec::<String>::new());
+}
+
+#[test]
+fn a_frame_tells_nothing_of_its_calls() {
+    let lines = [
+        "push ebp",
+        "mov ebp,esp",
+        "sub esp,0x10",
+        "push 0x1",
+        "call 900",
+        "fld QWORD PTR [esp]",
+        "fld QWORD PTR [ebp-0x8]",
+        "leave",
+        "ret",
+    ];
+    assert_eq!(on_way(&lines), ["[esp@40]", "[esp0-0xc]"]);
+    assert_eq!(places(&records(&text(&lines))), ["[esp@40]", "[esp0-0xc]"]);
+}
+
+#[test]
+fn one_value_of_a_register_is_not_taken_for_another() {
+    let lines = [
+        "fld QWORD PTR [eax]",
+        "mov eax,ebx",
+        "fadd QWORD PTR [eax+0x8]",
+    ];
+    assert_eq!(on_way(&lines), ["[eax]", "[eax@10+0x8]"]);
+}
+
+#[test]
+fn addresses_with_registers_may_not_be_linked_either() {
+    let lines = [
+        "fld QWORD PTR [eax*8+0x0]",
+        "fadd QWORD PTR [eax*8+0x0]",
+        "fadd QWORD PTR [ebx+0x0]",
+        "fadd QWORD PTR [ebp+0x0]",
+    ];
+    let expected = [
+        "[unlinked of 0+eax*8]",
+        "[unlinked of 10+eax*8]",
+        "[unlinked of 20+ebx]",
+        "[ebp]",
+    ];
+    assert_eq!(on_way(&lines), expected);
+    let long = "0 fld QWORD PTR [rip+0x0]        # 6 <f+0x6>\n6 ret\n";
+    assert_eq!(places(&records(long)), ["[unlinked of 0]"]);
+}
+
+#[test]
+fn a_jump_through_a_table_goes_where_the_text_does_not_tell() {
+    let text = "00000000 <f>:\n0 sub esp,0x1c\n3 jmp DWORD PTR [eax*4+0x0]\n5: R_386_32 .rodata\n\
+                9 fadd QWORD PTR [esp+0x20]\nd ret\n";
+    let words = remarks(&with(text, &path(&[])));
+    assert!(
+        words[0].starts_with("3 jmp DWORD PTR [eax*4+0x0]: goes where the text"),
+        "{words:?}"
+    );
+    let told = records(text);
+    assert_eq!(places(&told).pop().as_deref(), Some("[esp0+0x4]"));
+}
+
+#[test]
+fn a_way_does_not_cross_what_was_left_out() {
+    let text = "00000000 <f>:\n0 fld1\n2 call 40 <abort>\n\t...\n00000010 <g>:\n10 fldz\n12 ret\n";
+    let words = remarks(&with(text, &path(&[])));
+    assert!(
+        words[1].starts_with("2 call 40 <abort>: the text ends behind"),
+        "{words:?}"
+    );
+}
+
+#[test]
+fn the_last_address_has_none_behind_it() {
+    for options in [path(&[]), x87rec::Options::default()] {
+        let told = with("ffffffffffffffff fld1\n", &options);
+        assert_eq!(told.lines, 1);
     }
 }

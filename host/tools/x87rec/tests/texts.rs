@@ -200,6 +200,8 @@ fn relocations_name_their_symbols() {
                 2: R_X86_64_PC32 x-0x4\n6 fld QWORD PTR [rip+0x0]\n\
                 8: R_X86_64_PC32 y+0x4\nc ret\n";
     assert_eq!(places(&records(long)), ["[x]", "[y+0x8]"]);
+    let coff = "0 fld QWORD PTR ds:0x0\n2: dir32 _x\n6 call b\n7: DISP32 _g\nb ret\n";
+    assert_eq!(places(&records(coff)), ["[_x]"]);
     assert_eq!(wrong("2: R_386_32 a\n").line, 1);
 }
 
@@ -215,7 +217,7 @@ fn what_is_too_long_is_refused_with_words() {
     let lines: String = (0..1_100).map(|at| format!("{at:x} fld1\n")).collect();
     let why = wrong(&lines).to_string();
     assert!(
-        why.contains("x87lift takes 16384: take one function"),
+        why.contains("the 16384 bytes that x87lift takes: take one function"),
         "{why}"
     );
 }
@@ -243,6 +245,7 @@ fn what_is_not_known_to_pass_is_a_record() {
     for line in [
         "emms",
         "movq mm0,QWORD PTR [eax]",
+        "PXOR MM0,MM0",
         "call 10",
         "jmp 10",
         "(bad)",

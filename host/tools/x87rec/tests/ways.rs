@@ -2,6 +2,8 @@
 
 mod common;
 
+use notes::What;
+
 use common::{named, path, reads, records, remarks, with};
 use x87rec::{Options, Take, translate};
 
@@ -19,11 +21,14 @@ fn one_way_can_be_followed() {
     assert_eq!(named_on(&[]), ["fld1", "fchs", "fstp"]);
     assert_eq!(named_on(&[2]), ["fld1", "fabs", "fstp"]);
     let why = translate(text, &path(&[4, 8])).expect_err("it is not on the way");
-    assert_eq!(why.to_string(), "the way does not come to 8");
+    let expected = "the way does not come to a conditional jump at 4";
+    assert_eq!(why.to_string(), expected);
     let returned = with("8 fld1\na ret\n0 fchs\n", &path(&[]));
     assert_eq!(named(&returned), ["fld1"]);
     let twice = translate("8 fld1\n8 fchs\n", &path(&[])).expect_err("it is wrong");
-    assert_eq!(twice.to_string(), "line 2: 8 stands there twice");
+    let expected = "line 2: 8 stands there twice: take one function (--function)";
+    assert_eq!(twice.to_string(), expected);
+    assert!(translate("8 fld1\n8 fchs\n", &Options::default()).is_err());
 }
 
 #[test]
@@ -45,6 +50,8 @@ fn the_end_of_a_way_is_told() {
         indirect.starts_with("2 notrack jmp eax: goes where the text"),
         "{indirect}"
     );
+    let stops = end("0 fld1\n2 ud2\n4 fchs\n", &[]);
+    assert!(stops.starts_with("2 ud2: stops the processor"), "{stops}");
     let off = end("0 fld1\n2 nop\n", &[]);
     assert!(
         off.starts_with("2 nop: the text ends behind this line"),
@@ -56,6 +63,19 @@ fn the_end_of_a_way_is_told() {
         leaves.starts_with("2 jmp g: the way leaves the code"),
         "{leaves}"
     );
+}
+
+#[test]
+fn a_way_into_another_function_is_told() {
+    let text = "00000000 <f>:\n0 fld1\n2 jmp 10 <g>\n\n00000010 <g>:\n10 fldz\n12 ret\n";
+    let told = with(text, &path(&[]));
+    assert_eq!(remarks(&told)[0], "10 the way goes on in g");
+    let begins = told
+        .notes
+        .events
+        .iter()
+        .filter(|event| matches!(event.what, What::Begin(_)));
+    assert_eq!(begins.count(), 1);
 }
 
 #[test]
@@ -72,6 +92,23 @@ fn a_loop_can_be_gone_through_so_many_times() {
     let words = remarks(&twice);
     let expected = ["8 jne 2: taken", "8 jne 2: taken", "8 jne 2: not taken"];
     assert_eq!(words[..3], expected);
+    let why = |takes: &[Take]| {
+        let options = Options {
+            path: Some(takes.to_vec()),
+            ..Options::default()
+        };
+        translate(LOOP, &options)
+            .map(|_| ())
+            .expect_err("it is wrong")
+            .to_string()
+    };
+    let take = |decisions: &[bool]| Take {
+        address: 8,
+        decisions: Some(decisions.to_vec()),
+    };
+    let many = "3 decisions at 8, and the way comes there 2 times";
+    assert_eq!(why(&[take(&[true, false, true])]), many);
+    assert_eq!(why(&[take(&[true]), take(&[true])]), "8 is listed twice");
     // When the decisions are used up, a jump is not taken.
     assert_eq!(named(&with(LOOP, &options(&[true]))).len(), 3);
     let round = "0 fld1\n2 je 8\n4 jmp 0\n8 ret\n";
@@ -100,13 +137,21 @@ fn the_writer_of_a_flag_is_told() {
     assert_eq!(moves("jne 4"), all(compare, compare, compare));
     assert_eq!(moves("fld1"), all(compare, compare, compare));
     let integer = |name: &str| format!("{name} at 2 wrote it: integer code");
-    for name in ["cmp", "add", "sahf", "test", "shl", "imul", "ucomiss"] {
+    for name in ["cmp", "add", "sahf", "test", "imul"] {
         let who = integer(name);
         assert_eq!(moves(&format!("{name} eax,ecx")), all(&who, &who, &who));
     }
     let inc = integer("inc");
     assert_eq!(moves("inc eax"), all(compare, &inc, &inc));
     assert_eq!(moves("stc"), all(&integer("stc"), compare, compare));
+    let bt = integer("bt");
+    assert_eq!(moves("bt eax,0x1"), all(&bt, compare, &bt));
+    let vector = integer("ucomiss");
+    assert_eq!(moves("ucomiss xmm0,xmm1"), all(&vector, &vector, &vector));
+    assert_eq!(moves("unpcklps xmm0,xmm1"), all(compare, compare, compare));
+    let shift = integer("shl");
+    assert_eq!(moves("shl eax,0x1"), all(&shift, &shift, &shift));
+    assert!(moves("shl eax,cl")[0].ends_with("which the text does not know"));
     let call = "call at 2 left it: not modelled";
     assert_eq!(moves("call 40"), all(call, call, call));
     let entry = "4 CF as it was on entry";
@@ -120,8 +165,16 @@ fn the_writer_of_the_status_word_is_told() {
         reads(&with(&text, &path(&[])))
     };
     let compare = "4 fsw as fcom at 0 wrote it";
-    for between in ["fstp st(0)", "cmp eax,ecx", "fcomi st,st(1)"] {
-        assert_eq!(told(between), [compare], "{between}");
+    for between in [
+        "fnstcw WORD PTR [eax]",
+        "cmp eax,ecx",
+        "fnstsw WORD PTR [eax]",
+    ] {
+        assert_eq!(told(between).pop().as_deref(), Some(compare), "{between}");
+    }
+    let aside = format!("{compare}, C1, TOP and exceptions aside");
+    for between in ["fstp st(0)", "fcomi st,st(1)", "fld1", "fadd st,st(1)"] {
+        assert_eq!(told(between), [aside.as_str()], "{between}");
     }
     assert_eq!(told("fprem"), ["4 fsw as fprem at 2 left it: not modelled"]);
     assert_eq!(told("ftst"), ["4 fsw as ftst at 2 left it: not modelled"]);

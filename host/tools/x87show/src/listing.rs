@@ -2,7 +2,11 @@
 
 use std::fmt;
 
-use sleetgate::{Node, Refusal, Statement};
+use sleetgate::{Node, Refusal, Sort, Statement};
+
+/// The rooms of `x87lift`.
+pub const NODES: usize = 1_024;
+pub const STATEMENTS: usize = 256;
 
 /// What a listing says.
 #[derive(Debug, Clone, Default, PartialEq, Eq)]
@@ -46,7 +50,7 @@ impl Listing {
             let why = "x87lift wrote nothing: the step before this one failed";
             return Err(Wrong::Step(why.to_owned()));
         }
-        let mut listing = Self::default();
+        let mut listing = Reading::default();
         let mut ended = false;
         for (at, line) in text.lines().enumerate() {
             let wrong = |why| Wrong::Line { line: at + 1, why };
@@ -60,7 +64,7 @@ impl Listing {
                     listing.state(&words).map_err(wrong)?;
                     ended = true;
                 }
-                ("r", true) if listing.refused.is_none() => {
+                ("r", true) if listing.read.refused.is_none() => {
                     listing.refusal(&words).map_err(wrong)?;
                 }
                 _ => return Err(wrong("rows are n, then s, then one d, then at most one r")),
@@ -71,21 +75,32 @@ impl Listing {
             let why = "the row d with the state is missing";
             return Err(Wrong::Line { line, why });
         }
-        Ok(listing)
+        Ok(listing.read)
     }
+}
 
+/// A listing that is being read, and the sorts of its nodes.
+#[derive(Default)]
+struct Reading {
+    read: Listing,
+    sorts: Vec<Sort>,
+}
+
+impl Reading {
     fn node(&mut self, words: &[u64]) -> Result<(), &'static str> {
         let &[number, kind, a, b, c] = words else {
             return Err("a node has a number, a kind and three fields");
         };
-        if number != self.nodes.len() as u64 || !self.statements.is_empty() {
+        if number != self.sorts.len() as u64 || !self.read.statements.is_empty() {
             return Err("nodes are numbered from 0 on, before the statements");
         }
-        let node = Node::of([kind, a, b, c]).ok_or("there is no such node")?;
-        if node.operands().into_iter().any(|operand| operand >= number) {
-            return Err("an operand is an earlier node");
+        if self.sorts.len() == NODES {
+            return Err("x87lift writes at most 1,024 nodes");
         }
-        self.nodes.push(node);
+        let node = Node::of([kind, a, b, c]).ok_or("there is no such node")?;
+        let sort = node.sort(&self.sorts).ok_or("the node has no sort")?;
+        self.sorts.push(sort);
+        self.read.nodes.push(node);
         Ok(())
     }
 
@@ -93,14 +108,19 @@ impl Listing {
         let &[number, kind, a, b, c] = words else {
             return Err("a statement has a number, a kind and three fields");
         };
-        if number != self.statements.len() as u64 {
+        if number != self.read.statements.len() as u64 {
             return Err("statements are numbered from 0 on");
         }
-        let statement = Statement::of([kind, a, b, c]).ok_or("there is no such statement")?;
-        if named(statement).is_some_and(|node| !self.has(node)) {
-            return Err("a statement names a node of the list");
+        if self.read.statements.len() == STATEMENTS {
+            return Err("x87lift writes at most 256 statements");
         }
-        self.statements.push(statement);
+        let statement = Statement::of([kind, a, b, c]).ok_or("there is no such statement")?;
+        if let Some(node) = named(statement)
+            && !self.has(node, bits(statement))
+        {
+            return Err("a statement names a node of its width");
+        }
+        self.read.statements.push(statement);
         Ok(())
     }
 
@@ -108,10 +128,10 @@ impl Listing {
         let [depth, _inputs, _temporaries, slots @ ..] = words else {
             return Err("a state has a depth, inputs and temporaries");
         };
-        if slots.len() as u64 != *depth || !slots.iter().all(|&slot| self.has(slot)) {
-            return Err("a state has a node of the list for each place");
+        if slots.len() as u64 != *depth || !slots.iter().all(|&slot| self.has(slot, 79)) {
+            return Err("a state has a node of 79 bits for each place");
         }
-        self.stack = slots.to_vec();
+        self.read.stack = slots.to_vec();
         Ok(())
     }
 
@@ -121,12 +141,26 @@ impl Listing {
         };
         let number = u32::try_from(number).unwrap_or(u32::MAX);
         let refusal = Refusal::of(number, 0).ok_or("there is no such refusal")?;
-        self.refused = Some((refusal, place));
+        self.read.refused = Some((refusal, place));
         Ok(())
     }
 
-    fn has(&self, node: u64) -> bool {
-        node < self.nodes.len() as u64
+    /// Whether the list has a node of so many bits.
+    fn has(&self, node: u64, bits: u64) -> bool {
+        let sort = usize::try_from(node)
+            .ok()
+            .and_then(|node| self.sorts.get(node));
+        sort.is_some_and(|sort| matches!(sort, Sort::Bits(own) if u64::from(*own) == bits))
+    }
+}
+
+/// The bits that a statement demands of its node.
+fn bits(statement: Statement) -> u64 {
+    match statement {
+        Statement::Load { bits, .. } | Statement::Store { bits, .. } => bits,
+        Statement::Status { .. } | Statement::Ax { .. } => 16,
+        Statement::Flag { .. } => 1,
+        Statement::Unsupported { .. } => 0,
     }
 }
 

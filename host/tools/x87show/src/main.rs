@@ -1,5 +1,6 @@
 //! The command `x87show`: see [`HELP`].
 
+use std::ffi::OsString;
 use std::io::{self, Read, Write};
 use std::process::ExitCode;
 use std::{env, fs};
@@ -24,15 +25,18 @@ argument.
 ";
 
 fn main() -> ExitCode {
-    let words: Vec<String> = env::args().skip(1).collect();
-    let words: Vec<&str> = words.iter().map(String::as_str).collect();
+    let words: Vec<OsString> = env::args_os().skip(1).collect();
+    let words: Vec<&str> = words
+        .iter()
+        .map(|word| word.to_str().unwrap_or(""))
+        .collect();
     let shown = match words[..] {
         [] => run(None),
         ["--names", file] => run(Some(file)),
         ["--help"] => Ok(whole(HELP.to_owned())),
         ["--version"] => Ok(whole(format!("x87show {}\n", env!("CARGO_PKG_VERSION")))),
         _ => {
-            eprintln!("x87show: wrong arguments; x87show --help says more");
+            say("wrong arguments; x87show --help says more");
             return ExitCode::from(2);
         }
     };
@@ -41,10 +45,16 @@ fn main() -> ExitCode {
         Ok(()) if !refused => ExitCode::SUCCESS,
         Ok(()) => ExitCode::FAILURE,
         Err(why) => {
-            eprintln!("x87show: {why}");
+            say(&why);
             ExitCode::FAILURE
         }
     }
+}
+
+/// Say something on standard error; where that cannot be, the status
+/// tells.
+fn say(why: &str) {
+    let _ = writeln!(io::stderr(), "x87show: {why}");
 }
 
 /// A text that is not cut short by a refusal.

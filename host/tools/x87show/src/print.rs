@@ -12,8 +12,8 @@ use crate::listing::{Listing, named};
 use crate::terms::{Id, Term};
 use crate::trace::Span;
 
-/// A part with more leaves than this has a name of its own.
-const LONG: usize = 9;
+/// A part of more terms than this has a name of its own.
+const LONG: usize = 15;
 
 /// How tightly a choice, signs before a term and whole terms bind.
 const CHOICE: u8 = 0;
@@ -60,7 +60,7 @@ pub fn with_notes(listing: &Listing, notes: &Notes, spans: &[Span]) -> String {
     }
     let mut left = spans.iter();
     for event in &notes.events {
-        page.address = Some(event.address);
+        page.arrive(event.address);
         let What::Record(record) = &event.what else {
             page.event(event);
             continue;
@@ -174,6 +174,8 @@ struct Page<'a> {
     /// Where the stack begins, and how many places below were taken.
     ground: Ground,
     taken: u64,
+    /// Whether the last record went elsewhere.
+    left: bool,
     /// The stack as it is now.
     places: Vec<u64>,
     text: String,
@@ -198,6 +200,7 @@ impl<'a> Page<'a> {
             told: HashSet::new(),
             ground: Ground::Entry,
             taken: 0,
+            left: false,
             places: Vec::new(),
             address: None,
             text: String::new(),
@@ -227,6 +230,16 @@ impl<'a> Page<'a> {
         self.line(&format!("-- {words}"));
     }
 
+    /// Lines are about the instruction at this address; behind a jump or a
+    /// return, it was come to from elsewhere.
+    fn arrive(&mut self, address: u64) {
+        if self.left && self.address != Some(address) {
+            self.ground = Ground::Coming(address);
+            self.left = false;
+        }
+        self.address = Some(address);
+    }
+
     /// What happens between the records.
     fn event(&mut self, event: &Event) {
         match &event.what {
@@ -238,8 +251,11 @@ impl<'a> Page<'a> {
             }
             What::Remark(words) => self.words(words),
             What::Stack(words) => {
-                self.words(words);
                 let places = self.places.clone();
+                for &node in &places {
+                    self.introduce(of(self.built, node));
+                }
+                self.words(words);
                 self.stack(&places);
                 self.below();
             }
@@ -265,6 +281,9 @@ impl<'a> Page<'a> {
                 Ground::Behind(span.address)
             };
             self.taken = 0;
+            self.left = ["ret", "iret", "jmp"]
+                .iter()
+                .any(|name| record.text.starts_with(name));
         }
         self.places.clone_from(&span.stack);
     }
@@ -320,9 +339,31 @@ impl<'a> Page<'a> {
                 format!("{} := {}", flag_name(flag), self.formula(node))
             }
             Statement::Ax { node } => format!("ax := {}", self.formula(node)),
-            Statement::Unsupported { answer, address } => declined(answer, address, record),
+            Statement::Unsupported { answer, address } => self.declined(answer, address, record),
         };
         self.line(&line);
+    }
+
+    /// What is said of a decline.
+    fn declined(&self, answer: Why, address: u64, record: Option<&Record>) -> String {
+        let (begin, why) = match record {
+            None => (format!("{address:#x}: "), None),
+            Some(record) if record.text.is_empty() => (String::new(), record.why.as_ref()),
+            Some(record) => (format!("{}: ", record.text), record.why.as_ref()),
+        };
+        let words = match (answer, why) {
+            (Why::Form, Some(why)) => why.clone(),
+            _ => answer.to_string(),
+        };
+        let stored = match record.and_then(|record| record.writes) {
+            None => String::new(),
+            Some(0) => ", and where and what it stores is not known".to_owned(),
+            Some(number) => {
+                let place = self.place(number.into());
+                format!(", and what it stores to {place} is not known")
+            }
+        };
+        format!("-- {begin}{words}: the stack is forgotten here{stored}")
     }
 
     /// An address number's text.
@@ -464,18 +505,4 @@ impl<'a> Page<'a> {
         };
         format!("{name}({})", parts.join(", "))
     }
-}
-
-/// What is said of a decline.
-fn declined(answer: Why, address: u64, record: Option<&Record>) -> String {
-    let (begin, why) = match record {
-        None => (format!("{address:#x}: "), None),
-        Some(record) if record.text.is_empty() => (String::new(), record.why.as_ref()),
-        Some(record) => (format!("{}: ", record.text), record.why.as_ref()),
-    };
-    let words = match (answer, why) {
-        (Why::Form, Some(why)) => why.clone(),
-        _ => answer.to_string(),
-    };
-    format!("-- {begin}{words}: the stack is forgotten here")
 }

@@ -7,11 +7,7 @@ use notes::Notes;
 use sleetgate::{Item, Lifted, Lifter, Refusal, read_record};
 
 use crate::Wrong;
-use crate::listing::Listing;
-
-/// The rooms of `x87lift`.
-const NODES: usize = 1_024;
-const STATEMENTS: usize = 256;
+use crate::listing::{Listing, NODES, STATEMENTS};
 
 /// What a record did.
 #[derive(Debug, Clone, Default, PartialEq, Eq)]

@@ -168,16 +168,28 @@ fn what_is_no_listing_is_named() {
     );
     assert_eq!(
         wrong("n 0 26 0 0 0\nd 0 0 0\n"),
-        at(1, "an operand is an earlier node")
+        at(1, "the node has no sort")
     );
     assert_eq!(line("n 1 4 0 0 0\n"), 1);
     assert_eq!(
         wrong("s 0 3 0 0 0\n"),
-        at(1, "a statement names a node of the list")
+        at(1, "a statement names a node of its width")
     );
     assert_eq!(line("d 1 0 0\n"), 1);
     assert_eq!(wrong("d 0 0 0\nr 2 0\n"), at(2, "there is no such refusal"));
     assert_eq!(line("d 0 0 0\nd 0 0 0\n"), 2);
+    let deep: String = (1..1_025)
+        .map(|n| format!("n {n} 12 {} 0 0\n", n - 1))
+        .collect();
+    let deep = format!("n 0 6 1 0 1\n{deep}d 0 0 0\n");
+    assert_eq!(
+        wrong(&deep),
+        at(1_025, "x87lift writes at most 1,024 nodes")
+    );
+    assert_eq!(
+        wrong("n 0 4 0 0 0\nd 1 0 0 0\n"),
+        at(2, "a state has a node of 79 bits for each place")
+    );
     assert_eq!(wrong("d 0 0 zero\n"), at(1, "fields are decimal numbers"));
 }
 
