@@ -19,7 +19,9 @@ use crate::run::Step;
 /// The flags and their places in the processor's word.
 pub const FLAGS: [(&str, u32); 3] = [("CF", 0), ("PF", 2), ("ZF", 6)];
 
-/// C0, C2 and C3 in the status word.
+/// C0, C2 and C3 in the status word, and the words by which no more of it
+/// is told.
+const ASIDE: &str = ", C1, TOP and exceptions aside";
 const CONDITIONS: u16 = 1 << 8 | 1 << 10 | 1 << 14;
 
 /// What is said of each rounding and each precision, by their numbers in
@@ -180,15 +182,18 @@ impl<'a> Held<'a> {
         *self.counts.entry(kind).or_default() += 1;
     }
 
-    /// A flag or the condition codes are still what they were behind their
-    /// writer.
+    /// A flag or the status word is still what it was behind its writer.
     fn read(&mut self, here: Here, name: &str, words: &str) -> Told {
+        let (words, aside) = match words.strip_suffix(ASIDE) {
+            Some(words) => (words, CONDITIONS),
+            None => (words, u16::MAX),
+        };
         let Some(writer) = self.writer(here, words)? else {
             return Ok(());
         };
         let now = self.beside.before(here.at);
         self.count(if name == "fsw" { "status" } else { "flags" });
-        let (told, real) = (value(writer, name), value(now, name));
+        let (told, real) = (value(writer, name, aside), value(now, name, aside));
         if told.is_some() && told == real {
             return Ok(());
         }
@@ -289,18 +294,16 @@ impl<'a> Held<'a> {
         Err(format!("{word:x} is loaded: {words}"))
     }
 
-    /// Whether an instruction that is named, or one of the others behind
-    /// it where these are told of, changed memory of the stack.
-    fn writes_stack(&self, named: &str, at: usize) -> bool {
-        let mut words = named.split([' ', ',']);
-        let Some(first) = words.find_map(hexadecimal) else {
+    /// Whether an instruction, from the one that is named on, changed memory
+    /// of the stack otherwise than by the stack pointer.
+    fn writes_stack(&self, condition: &str, at: usize) -> bool {
+        let Some(first) = condition.split(' ').find_map(hexadecimal) else {
             return false;
         };
-        let others = words.any(|word| word == "others");
         let stack = self.beside.run.arena.address + STACK;
         let mut visits = (0..at).filter(|&visit| {
-            let ip = self.beside.before(visit).ip;
-            ip == first || others && ip > first
+            let code = self.beside.instruction(visit);
+            self.beside.before(visit).ip >= first && code.is_some_and(is_by_pointer)
         });
         visits.any(|visit| {
             let mut changes = self.beside.changes(visit);
@@ -323,6 +326,11 @@ impl<'a> Held<'a> {
             None => Ok(()),
         }
     }
+}
+
+/// Whether an instruction may write where a pointer points.
+fn is_by_pointer(code: &Instruction) -> bool {
+    !code.operands.contains("[esp") && code.name != "push"
 }
 
 /// What is said of a word that is loaded: rounding and precision, where
@@ -370,10 +378,10 @@ fn fields(word: u16) -> (usize, usize) {
     (usize::from(word >> 10 & 3), usize::from(word >> 8 & 3))
 }
 
-/// A flag, or the condition codes.
-fn value(step: &Step, name: &str) -> Option<u32> {
+/// A flag, or these bits of the status word.
+fn value(step: &Step, name: &str, bits: u16) -> Option<u32> {
     if name == "fsw" {
-        return Some((step.status & CONDITIONS).into());
+        return Some((step.status & bits).into());
     }
     let (_, bit) = FLAGS.iter().find(|(known, _)| *known == name)?;
     Some(step.flags >> bit & 1)
