@@ -295,16 +295,13 @@ impl<'a> Held<'a> {
     }
 
     /// Whether an instruction, from the one that is named on, changed memory
-    /// of the stack otherwise than by the stack pointer.
+    /// of the stack. A word may be kept there by way of any pointer.
     fn writes_stack(&self, condition: &str, at: usize) -> bool {
         let Some(first) = condition.split(' ').find_map(hexadecimal) else {
             return false;
         };
         let stack = self.beside.run.arena.address + STACK;
-        let mut visits = (0..at).filter(|&visit| {
-            let code = self.beside.instruction(visit);
-            self.beside.before(visit).ip >= first && code.is_some_and(is_by_pointer)
-        });
+        let mut visits = (0..at).filter(|&visit| self.beside.before(visit).ip >= first);
         visits.any(|visit| {
             let mut changes = self.beside.changes(visit);
             changes.any(|(place, _)| place >= stack)
@@ -326,11 +323,6 @@ impl<'a> Held<'a> {
             None => Ok(()),
         }
     }
-}
-
-/// Whether an instruction may write where a pointer points.
-fn is_by_pointer(code: &Instruction) -> bool {
-    !code.operands.contains("[esp") && code.name != "push"
 }
 
 /// What is said of a word that is loaded: rounding and precision, where
