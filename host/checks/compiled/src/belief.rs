@@ -19,7 +19,9 @@ use crate::run::Step;
 /// The flags and their places in the processor's word.
 pub const FLAGS: [(&str, u32); 3] = [("CF", 0), ("PF", 2), ("ZF", 6)];
 
-/// C0, C2 and C3 in the status word.
+/// C0, C2 and C3 in the status word, and the words by which no more of it
+/// is told.
+const ASIDE: &str = ", C1, TOP and exceptions aside";
 const CONDITIONS: u16 = 1 << 8 | 1 << 10 | 1 << 14;
 
 /// What is said of each rounding and each precision, by their numbers in
@@ -116,20 +118,26 @@ impl<'a> Held<'a> {
             .is_some_and(|code| PROBES.contains(&code.name.as_str()));
         let last = if skips { next } else { ip + 1 };
         let notes = self.notes;
-        let events = notes.events.iter();
-        let mut events = events.filter(|event| (ip.into()..last.into()).contains(&event.address));
-        events.try_for_each(|event| {
-            let here = Here {
-                at: at + usize::from(event.address != ip.into()),
-                is_visited: event.address == ip.into(),
-                code: u32::try_from(event.address)
-                    .ok()
-                    .and_then(|address| code.at(address))
-                    .ok_or("no instruction")?,
-            };
-            let told = self.event(here, event);
-            told.map_err(|why| format!("{:x}, visit {at}: {why}", event.address))
-        })?;
+        let from = |address: u32| {
+            let address = address.into();
+            notes
+                .events
+                .partition_point(|event| event.address < address)
+        };
+        notes.events[from(ip)..from(last)]
+            .iter()
+            .try_for_each(|event| {
+                let is_visited = event.address == ip.into();
+                let address = u32::try_from(event.address).ok();
+                let code = address.and_then(|address| code.at(address));
+                let here = Here {
+                    at: at + usize::from(!is_visited),
+                    is_visited,
+                    code: code.ok_or("no instruction")?,
+                };
+                let told = self.event(here, event);
+                told.map_err(|why| format!("{:x}, visit {at}: {why}", event.address))
+            })?;
         if code.behind(ip) != Some(next) && !skips {
             self.places.clear();
         }
@@ -174,19 +182,22 @@ impl<'a> Held<'a> {
         *self.counts.entry(kind).or_default() += 1;
     }
 
-    /// A flag or the condition codes are still what they were behind their
-    /// writer.
+    /// A flag or the status word is still what it was behind its writer.
     fn read(&mut self, here: Here, name: &str, words: &str) -> Told {
+        let (words, aside) = match words.strip_suffix(ASIDE) {
+            Some(words) => (words, CONDITIONS),
+            None => (words, u16::MAX),
+        };
         let Some(writer) = self.writer(here, words)? else {
             return Ok(());
         };
         let now = self.beside.before(here.at);
         self.count(if name == "fsw" { "status" } else { "flags" });
-        let (told, real) = (value(writer, name), value(now, name));
-        match told.is_some() && told == real {
-            true => Ok(()),
-            false => Err(format!("{name} is {real:?}, {words}, {told:?}")),
+        let (told, real) = (value(writer, name, aside), value(now, name, aside));
+        if told.is_some() && told == real {
+            return Ok(());
         }
+        Err(format!("{name} is {real:?}, {words}, {told:?}"))
     }
 
     /// The state behind a writer, where one is told.
@@ -218,9 +229,11 @@ impl<'a> Held<'a> {
         let real = self.operand(here).ok_or("no operand")?;
         let text = self.notes.address(number.into()).ok_or("no such place")?;
         let sum = text.strip_prefix('[').and_then(|sum| sum.strip_suffix(']'));
-        let told = sum.and_then(|sum| match self.turns {
-            true => self.beside.place_of_turn(here.at, sum),
-            false => self.beside.place(here.at, sum),
+        let told = sum.and_then(|sum| {
+            if self.turns {
+                return self.beside.place_of_turn(here.at, sum);
+            }
+            self.beside.place(here.at, sum)
         });
         self.count("places");
         if told != Some(real) {
@@ -275,25 +288,20 @@ impl<'a> Held<'a> {
         let word = word.and_then(|word| u16::try_from(word).ok());
         let word = word.ok_or("the word is not in the arena")?;
         self.count("words");
-        match claim.holds(word) {
-            true => Ok(()),
-            false => Err(format!("{word:x} is loaded: {words}")),
+        if claim.holds(word) {
+            return Ok(());
         }
+        Err(format!("{word:x} is loaded: {words}"))
     }
 
-    /// Whether an instruction that is named, or one of the others behind
-    /// it where these are told of, changed memory of the stack.
-    fn writes_stack(&self, named: &str, at: usize) -> bool {
-        let mut words = named.split([' ', ',']);
-        let Some(first) = words.find_map(hexadecimal) else {
+    /// Whether an instruction, from the one that is named on, changed memory
+    /// of the stack. A word may be kept there by way of any pointer.
+    fn writes_stack(&self, condition: &str, at: usize) -> bool {
+        let Some(first) = condition.split(' ').find_map(hexadecimal) else {
             return false;
         };
-        let others = words.any(|word| word == "on");
         let stack = self.beside.run.arena.address + STACK;
-        let mut visits = (0..at).filter(|&visit| {
-            let ip = self.beside.before(visit).ip;
-            ip == first || others && ip > first
-        });
+        let mut visits = (0..at).filter(|&visit| self.beside.before(visit).ip >= first);
         visits.any(|visit| {
             let mut changes = self.beside.changes(visit);
             changes.any(|(place, _)| place >= stack)
@@ -362,10 +370,10 @@ fn fields(word: u16) -> (usize, usize) {
     (usize::from(word >> 10 & 3), usize::from(word >> 8 & 3))
 }
 
-/// A flag, or the condition codes.
-fn value(step: &Step, name: &str) -> Option<u32> {
+/// A flag, or these bits of the status word.
+fn value(step: &Step, name: &str, bits: u16) -> Option<u32> {
     if name == "fsw" {
-        return Some((step.status & CONDITIONS).into());
+        return Some((step.status & bits).into());
     }
     let (_, bit) = FLAGS.iter().find(|(known, _)| *known == name)?;
     Some(step.flags >> bit & 1)

@@ -486,7 +486,7 @@ impl Form {
             function.line(line);
         }
         function.probe();
-        let place = function.len();
+        let place = function.instructions();
         function.line(&self.text);
         for line in &self.behind {
             function.line(line);

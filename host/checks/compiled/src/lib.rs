@@ -9,6 +9,12 @@
 //! in the processor's own 80-bit arithmetic ([`reading`], [`formula`],
 //! [`extended`]), and compared with what the machine did.
 //!
+//! Assembly is run likewise: what `x87rec` believes of integer instructions
+//! ([`integer`]) and of random code ([`mixed`]) is told by its notes where
+//! x87 code names registers, flags and places ([`probed`]), and held against
+//! what the processor does ([`belief`]); [`needless`] is what it gives up
+//! without need.
+//!
 //! `stored/` has disassemblies and a few recorded runs of each function,
 //! for machines where gcc makes no 32-bit code, or where such code does not
 //! run. `cargo run --offline -p compiled --bin store` writes them again.

@@ -68,8 +68,7 @@ pub fn operand(size: &str, base: &str, offset: i32) -> String {
     format!("{size} PTR [{base}{sign}{:#x}]", offset.unsigned_abs())
 }
 
-/// A function: its lines, each of one instruction, or of a label that is
-/// the `9` of the line before.
+/// A function: its lines, each an instruction or a label.
 #[derive(Debug, Clone)]
 pub struct Function {
     pub name: String,
@@ -102,15 +101,9 @@ impl Function {
 
     /// How many instructions there are.
     #[must_use]
-    pub fn len(&self) -> usize {
+    pub fn instructions(&self) -> usize {
         let code = self.lines.iter().filter(|line| !line.ends_with(':'));
         code.count()
-    }
-
-    /// Whether there are none.
-    #[must_use]
-    pub fn is_empty(&self) -> bool {
-        self.len() == 0
     }
 
     /// Add a probe of the flags and registers.
@@ -156,14 +149,13 @@ pub fn assembly(functions: &[Function]) -> String {
 /// The texts of the functions in a disassembly, by their names.
 #[must_use]
 pub fn parts(disassembly: &str) -> HashMap<&str, &str> {
-    let named = |part: &'_ str| -> Option<(usize, usize)> {
-        let head = part.lines().next()?;
-        Some((head.find('<')? + 1, head.rfind(">:")?))
-    };
     let parts = disassembly.split("\n\n");
-    parts
-        .filter_map(|part| named(part).map(|(from, to)| (&part[from..to], part)))
-        .collect()
+    let named = parts.filter_map(|part| {
+        let head = part.lines().next()?.strip_suffix(">:")?;
+        let (_, name) = head.split_once('<')?;
+        Some((name, part))
+    });
+    named.collect()
 }
 
 /// What is believed of a function.

@@ -19,7 +19,7 @@ use notes::{Notes, Record, What};
 use x87rec::passes;
 
 /// Runs of each function.
-const RUNS: usize = 12;
+const RUNS: usize = 8;
 
 /// Functions of random code.
 const MIXED: usize = 400;
@@ -130,14 +130,14 @@ impl Held {
         tried: &mut Tried,
         beliefs: &mut Beliefs,
         rng: &mut Rng,
-        mut look: impl FnMut(&Seen),
+        mut look: impl FnMut(&mut Beliefs, &Seen),
     ) -> Result<(), String> {
         let code = beliefs.code.clone();
         for _ in 0..RUNS {
             let arena = arena(tried.machine.arena, rng);
             let run = tried.run(&code, &arena).map_err(|why| why.to_string())?;
             let seen = Seen::new(&run, &code);
-            look(&seen);
+            look(beliefs, &seen);
             self.run(beliefs, &seen)?;
         }
         Ok(())
@@ -161,22 +161,24 @@ impl Held {
         &mut self,
         tried: &mut Tried,
         functions: &[Function],
-        mut look: impl FnMut(usize, &Seen),
+        mut look: impl FnMut(usize, &mut Beliefs, &Seen),
     ) {
         let mut rng = Rng::new(87);
         let (objdump, llvm) = (tried.objdump.clone(), tried.llvm.clone());
         let parts = [parts(&objdump), parts(&llvm)];
         for (at, function) in functions.iter().enumerate() {
             let mut beliefs = Beliefs::new(&parts, &function.name);
-            let look = |seen: &Seen| look(at, seen);
+            let look = |beliefs: &mut Beliefs, seen: &Seen| look(at, beliefs, seen);
             let told = self.function(tried, &mut beliefs, &mut rng, look);
             let told = told.map_err(|why| format!("{why}\nin\n{function}"));
             self.differences.extend(told.err());
         }
     }
 
-    fn end(self) {
+    /// There are so many kinds of beliefs, and all are true.
+    fn end(self, kinds: usize) {
         println!("{:?}", self.counts);
+        assert_eq!(self.counts.len(), kinds, "{:?}", self.counts);
         let differences = self.differences.join("\n");
         assert!(differences.is_empty(), "{differences}");
     }
@@ -194,16 +196,13 @@ fn forms_do_what_is_believed() {
     let mut held = Held::default();
     let mut names = BTreeSet::new();
     let mut needless: BTreeMap<usize, Needless> = BTreeMap::new();
-    let objdump = tried.objdump.clone();
-    let texts = parts(&objdump);
-    held.all(&mut tried, &functions, |at, seen| {
+    held.all(&mut tried, &functions, |at, beliefs, seen| {
         let code = seen.beside().code;
         let address = code.address(places[at]).expect("it is there");
         names.extend(code.at(address).map(|code| name(code).to_owned()));
-        let needless = needless.entry(at).or_insert_with(|| {
-            let believed = Believed::of(texts[functions[at].name.as_str()], &[]);
-            Needless::told(&believed.expect("it is understood").way, address)
-        });
+        let notes = &beliefs.of(Vec::new())[0].way;
+        let entry = needless.entry(at);
+        let needless = entry.or_insert_with(|| Needless::told(notes, address));
         needless.run(seen.beside());
     });
     let mut told: BTreeMap<String, BTreeSet<&str>> = BTreeMap::new();
@@ -215,7 +214,7 @@ fn forms_do_what_is_believed() {
     told.retain(|_, names| !names.is_empty());
     println!("{} forms; needlessly given up: {told:?}", forms.len());
     assert_eq!(untried(&names), Vec::<String>::new());
-    held.end();
+    held.end(6);
 }
 
 /// Names that are passed over and that no form has.
@@ -240,8 +239,8 @@ fn mixtures_do_what_is_believed() {
         return;
     };
     let mut held = Held::default();
-    held.all(&mut tried, &functions, |_, _| {});
-    held.end();
+    held.all(&mut tried, &functions, |_, _, _| {});
+    held.end(7);
 }
 
 /// Change what is believed of a function, and see that some run tells.
@@ -259,7 +258,7 @@ fn seen(function: &str, lines: &[&str], change: impl Fn(&mut Notes)) {
     let mut beliefs = Beliefs::new(&[parts(&objdump)], function);
     let mut told = |beliefs: &mut Beliefs| {
         let rng = &mut Rng::new(3);
-        Held::default().function(&mut tried, beliefs, rng, |_| {})
+        Held::default().function(&mut tried, beliefs, rng, |_, _| {})
     };
     assert_eq!(told(&mut beliefs), Ok(()));
     beliefs.known.clear();
@@ -354,7 +353,7 @@ fn an_x87_unit_that_is_touched_is_seen() {
     let mut function = Function::entered("touches".to_owned());
     function.line("movd mm0,eax");
     function.end();
-    let place = Function::entered(String::new()).len();
+    let place = Function::entered(String::new()).instructions();
     let Some(mut tried) = started("touches", &[function]) else {
         return;
     };
