@@ -2,7 +2,7 @@
 
 use crate::address::immediate;
 use crate::line::Code;
-use crate::names::{RAX, RCX, RDI, RDX, RSI, names_mmx};
+use crate::names::{RAX, RCX, RDI, RDX, RSI, is_half, names_mmx};
 use crate::passing::passes;
 
 /// The x87 instructions: those that the lifter models, and the others.
@@ -176,7 +176,8 @@ pub fn stores(code: &Code) -> bool {
 pub fn operands(code: &Code) -> Vec<usize> {
     let name = code.name.as_str();
     let counted = name.starts_with('j') || name.starts_with("loop");
-    if name == "xchg" && code.operands.first() == code.operands.get(1) {
+    let same = code.operands.first() == code.operands.get(1);
+    if name == "xchg" && same && !code.operands.iter().any(|text| is_half(text)) {
         return Vec::new();
     }
     match name {

@@ -216,7 +216,7 @@ fn walked(steps: &[Step], callees: &Callees) -> Vec<Machine> {
     let Some(first) = steps.first() else {
         return Vec::new();
     };
-    let mut machine = Machine::entry(first.code.address);
+    let mut machine = Machine::entry(first.code.address, callees.word);
     let mut all = Vec::new();
     let mut visits: BTreeMap<u64, u32> = BTreeMap::new();
     for step in steps {
@@ -464,9 +464,9 @@ impl Solver<'_> {
         *visits += 1;
         let old = self.before.get(&line).filter(|_| *visits > MANY);
         let entry = self.text.entries.contains(&line);
-        let entry = entry.then(|| Machine::entry(line));
+        let entry = entry.then(|| Machine::entry(line, self.callees.word));
         let arrival = self.arrivals.contains(&line);
-        let arrival = arrival.then(|| Machine::arrival(line));
+        let arrival = arrival.then(|| Machine::arrival(line, self.callees.word));
         let entry = entry.or(arrival);
         let ahead = self.ahead.get(&line).into_iter().flatten();
         let ways = ahead.filter(|ahead| !self.is_tail_call(**ahead, line));
@@ -480,7 +480,9 @@ impl Solver<'_> {
             .chain(ways)
             .chain(joint)
             .chain(old.cloned());
-        let mut machine = ways.next().unwrap_or_else(|| Machine::arrival(line));
+        let mut machine = ways
+            .next()
+            .unwrap_or_else(|| Machine::arrival(line, self.callees.word));
         for way in ways {
             machine.meet(&way, line);
         }

@@ -7,7 +7,7 @@ use crate::control::changed;
 use crate::effects::{self, FLAGS};
 use crate::line::Code;
 use crate::memory::{Memory, Value};
-use crate::names::{Part, RAX, RBP, RCX, RDI, RDX, REGISTERS, RSI, RSP, register};
+use crate::names::{Part, RAX, RBP, RCX, RDI, RDX, REGISTERS, RSI, RSP, is_half, register};
 use crate::passing::passes;
 use crate::place::{Place, Term, Version, sum};
 use crate::word::Word;
@@ -45,6 +45,8 @@ struct Register {
 pub struct Machine {
     /// How often a way came to the line, this time included.
     pub visit: u32,
+    /// Whether registers have 64 bits, of which a name may be half.
+    is_long: bool,
     registers: [Register; REGISTERS],
     memory: Memory,
     pub control: Word,
@@ -66,8 +68,9 @@ pub trait Calls {
 }
 
 impl Machine {
-    /// What is known on entry to the code that begins at an address.
-    pub fn entry(address: u64) -> Self {
+    /// What is known on entry to the code that begins at an address, whose
+    /// stack has entries of so many bytes.
+    pub fn entry(address: u64, word: i64) -> Self {
         let version = Version::Entry(address);
         let mut registers = [Register {
             value: Value::Unknown,
@@ -76,6 +79,7 @@ impl Machine {
         registers[RSP].value = Value::Stack(version, 0);
         Self {
             visit: 1,
+            is_long: word == 8,
             registers,
             memory: Memory::default(),
             control: Word::ENTRY,
@@ -87,8 +91,8 @@ impl Machine {
     }
 
     /// What is known on coming to a line from where the text does not tell.
-    pub fn arrival(address: u64) -> Self {
-        let mut machine = Self::entry(address);
+    pub fn arrival(address: u64, word: i64) -> Self {
+        let mut machine = Self::entry(address, word);
         for register in &mut machine.registers {
             register.version = Version::At(address);
         }
@@ -144,9 +148,9 @@ impl Machine {
             offset: address.offset,
         };
         for (name, scale) in address.registers {
-            let (number, part) = register(&name)?;
+            let (number, _) = register(&name)?;
             let Register { value, version } = self.registers[number];
-            let whole = part == Part::Whole && scale == 1;
+            let whole = self.is_whole(&name) && scale == 1;
             match value {
                 Value::Stack(base, offset) if whole && place.stack.is_none() => {
                     place.stack = Some(base);
@@ -160,6 +164,12 @@ impl Machine {
             }
         }
         Some(place)
+    }
+
+    /// Whether a name is all of a register.
+    fn is_whole(&self, name: &str) -> bool {
+        let whole = matches!(register(name), Some((_, Part::Whole)));
+        whole && !(self.is_long && is_half(name))
     }
 
     /// The memory operands of an instruction, and their bytes.
@@ -454,7 +464,10 @@ impl Machine {
         };
         let old = self.whole(code);
         let word = old.word();
-        let all = code.operands.first().is_some_and(|text| is_whole(text));
+        let all = code.operands.first().is_some_and(|text| {
+            let lower = text.to_ascii_lowercase();
+            self.is_whole(&lower)
+        });
         let value = match (code.name.as_str(), old) {
             ("add", Value::Stack(base, offset)) if all => {
                 Value::Stack(base, offset.wrapping_add(low(signed)))
@@ -529,8 +542,10 @@ impl Machine {
         };
         let lower = text.to_ascii_lowercase();
         match register(&lower) {
-            Some((number, Part::Whole)) => return self.registers[number].value,
-            Some((number, Part::Word)) => return self.registers[number].value.half(),
+            Some((number, _)) if self.is_whole(&lower) => return self.registers[number].value,
+            Some((number, Part::Whole | Part::Word)) => {
+                return self.registers[number].value.half();
+            }
             Some(_) => return Value::Unknown,
             None => {}
         }
@@ -553,8 +568,10 @@ impl Machine {
             return;
         };
         let at = code.address;
-        match register(&text.to_ascii_lowercase()) {
-            Some((register, Part::Whole)) => return self.set(register, value, at),
+        let lower = text.to_ascii_lowercase();
+        match register(&lower) {
+            Some((register, _)) if self.is_whole(&lower) => return self.set(register, value, at),
+            Some((register, Part::Whole)) => return self.set(register, value.half(), at),
             Some((register, part)) => return self.set_part(register, part, value, at),
             None => {}
         }
@@ -644,11 +661,6 @@ impl Machine {
 
 fn met(mine: Writer, other: Writer) -> Writer {
     if mine == other { mine } else { Writer::Several }
-}
-
-/// Whether an operand is all of a register.
-fn is_whole(text: &str) -> bool {
-    matches!(register(&text.to_ascii_lowercase()), Some((_, Part::Whole)))
 }
 
 /// The text of an address without the register that is always zero.

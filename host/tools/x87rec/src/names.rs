@@ -78,6 +78,12 @@ pub fn register(name: &str) -> Option<(usize, Part)> {
     Some((digits.parse().ok()?, part))
 }
 
+/// Whether a name is that of the lower 32 bits of a register.
+pub fn is_half(name: &str) -> bool {
+    let numbered = is_numbered_general(name) && name.ends_with('d');
+    GENERAL.iter().any(|row| row[1] == name) || numbered
+}
+
 /// Whether this is a register that an address may be a sum of.
 pub fn is_general(name: &str) -> bool {
     parent(name).is_some() || OTHERS.contains(&name) || is_numbered_general(name)

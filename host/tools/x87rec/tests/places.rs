@@ -369,6 +369,17 @@ fn a_line_that_nothing_leads_to_has_a_stack_pointer_of_its_own() {
 }
 
 #[test]
+fn half_an_address_of_64_bits_is_none() {
+    let lines = |line: &str| format!("0 {line}\n4 fld QWORD PTR [rax]\n8 fld QWORD PTR [rsp]\n");
+    let told = |line: &str| places(&with(&lines(line), &path(&[])));
+    assert_eq!(told("lea rax,[rsp+0x8]"), ["[rsp0+0x8]", "[rsp0]"]);
+    assert_eq!(told("lea eax,[rsp+0x8]"), ["[rax]", "[rsp0]"]);
+    assert_eq!(told("add rsp,0x8"), ["[rax]", "[rsp0+0x8]"]);
+    assert_eq!(told("add esp,0x8"), ["[rax]", "[rsp@0]"]);
+    assert_eq!(told("mov eax,esp"), ["[rax]", "[rsp0]"]);
+}
+
+#[test]
 fn half_a_register_is_no_stack_address() {
     let lines = ["push ebp", "mov ebp,esp", "fld QWORD PTR [bp+0x8]"];
     assert_eq!(on_way(&lines), ["[bp+0x8]"]);
