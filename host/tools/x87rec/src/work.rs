@@ -185,21 +185,7 @@ impl<'a> Work<'a> {
             (Some(place), None) => self.reloads |= self.stored.contains(&place),
             _ => {}
         }
-        let mut why = None;
-        if !self.options.assume_reset {
-            match verdict(code, machine.control, &self.since(machine.changed)) {
-                Verdict::AsIs => {}
-                Verdict::Truncates(name) => {
-                    let words = format!("rounds toward zero here, and is lifted as {name}");
-                    self.remark(code, &words);
-                    insn.mnemonic = name.to_owned();
-                }
-                Verdict::Declined(words) => {
-                    insn = Instruction::new(code.address, format!("{UNMODELLED}{}", code.name), []);
-                    why = Some(words);
-                }
-            }
-        }
+        let why = self.judge(&mut insn, code, machine);
         let record = Record {
             bytes: bytes(&insn),
             text: code.text(),
@@ -219,6 +205,28 @@ impl<'a> Work<'a> {
             self.doubt(code, machine);
         }
         Ok(())
+    }
+
+    /// Make an instruction what it is under the control word; why the
+    /// lifter must not model it, where that is so.
+    fn judge(&mut self, insn: &mut Instruction, code: &Code, machine: &Machine) -> Option<String> {
+        if self.options.assume_reset {
+            return None;
+        }
+        match verdict(code, machine.control, &self.since(machine.changed)) {
+            Verdict::AsIs => None,
+            Verdict::Truncates(name) => {
+                let words = format!("rounds toward zero here, and is lifted as {name}");
+                self.remark(code, &words);
+                name.clone_into(&mut insn.mnemonic);
+                None
+            }
+            Verdict::Declined(words) => {
+                let name = format!("{UNMODELLED}{}", code.name);
+                *insn = Instruction::new(code.address, name, []);
+                Some(words)
+            }
+        }
     }
 
     /// Whether `x87lift` takes so many bytes more, and the end mark.
