@@ -104,3 +104,22 @@ fn the_stack_is_forgotten_at_the_restart() {
         assert!(!behind.contains(loaded), "{loaded} in {behind}");
     }
 }
+
+/// What README shows of the tour is in it.
+#[test]
+fn readme_shows_lines_of_the_tour() {
+    let path = Path::new(env!("CARGO_MANIFEST_DIR")).join("../../../README.md");
+    let readme = fs::read_to_string(path).expect("the file is there");
+    let tour = stored("expected.txt");
+    let tour: Vec<&str> = tour.lines().collect();
+    let shown = readme.lines().filter(|line| {
+        let address = line.split_once(": ").map_or("", |(address, _)| address);
+        let told = address.len() == 7 && address.bytes().all(|b| b.is_ascii_hexdigit());
+        told || line.starts_with("$ x87rec") || line.starts_with("-- ")
+    });
+    let shown: Vec<&str> = shown.collect();
+    assert!(shown.len() > 15, "{shown:?}");
+    for line in shown {
+        assert!(tour.contains(&line), "{line}");
+    }
+}
