@@ -144,7 +144,7 @@ fn other_disassemblers_are_read() {
         (0x0804_9004, "fadd", ""),
         (0x0804_9006, "fstp", "[eax+ecx*8-0x8]"),
     ];
-    let llvm = "\n/tmp/t:\tfile format elf32-i386\n\nDisassembly of section .text:\n\n\
+    let llvm = "\nfilter:\tfile format elf32-i386\n\nDisassembly of section .text:\n\n\
                 08049000 <f>:\n\
                 \x20 8049000: dd 44 24 04                  \tfld\tqword ptr [esp + 4]\n\
                 \x20 8049004: d8 c0                        \tfadd\tst, st(0)\n\
