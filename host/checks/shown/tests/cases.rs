@@ -224,3 +224,30 @@ fn a_windows_word_rounds_sums_to_53_bits() {
     assert!(!stored("windows").contains(" + "), "no sum is shown");
     assert_eq!(lines_at("control-words", "55"), ["[esp0+0xc] := f32(s6)"]);
 }
+
+/// What is shown of some plain lines.
+fn of_lines(program: &Program, text: &str, words: &str) -> String {
+    let words = options(words).expect("there are such options");
+    told(text, &words, program).expect("each step is done")
+}
+
+#[test]
+fn a_flag_of_a_declined_compare_is_not_modelled() {
+    let Some(program) = program() else { return };
+    let text = of_lines(
+        &program,
+        "0 fcomi st,st(9)\n2 fcmovb st,st(1)\n4 ret\n",
+        "--path",
+    );
+    assert!(
+        text.contains("CF1 := CF, as fcomi at 0 wrote it: not modelled\n"),
+        "{text}"
+    );
+}
+
+#[test]
+fn nothing_comes_from_behind_a_return() {
+    let Some(program) = program() else { return };
+    let text = of_lines(&program, "0 ret\n1 fstp DWORD PTR [eax]\n3 ret\n", "");
+    assert!(text.contains("in0 is st(0) on coming to 1\n"), "{text}");
+}

@@ -264,9 +264,9 @@ fn twice(lines: &[Line]) -> Option<&line::Code> {
 }
 
 /// The bytes of an entry on the stack: eight where a line names a register
-/// of 64 bits.
+/// that only 64-bit code has; all of these begin with an `r`.
 fn stack_word(lines: &[Line]) -> i64 {
-    let long = |word: &str| word.len() == 3 && word.starts_with('r') && names::is_general(word);
+    let long = |word: &str| word.starts_with('r') && names::is_general(word);
     let names_long = |text: &String| {
         let lower = text.to_ascii_lowercase();
         lower.split(|c: char| !c.is_ascii_alphanumeric()).any(long)

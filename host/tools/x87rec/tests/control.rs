@@ -322,3 +322,16 @@ fn what_a_word_was_kept_across_is_not_lost_when_it_is_moved() {
         "{words:?}"
     );
 }
+
+#[test]
+fn what_one_of_two_ways_crossed_is_told_where_they_meet() {
+    let text = "00000000 <f>:\n0 fnstcw WORD PTR [esp-0x2]\n4 je a\n8 mov DWORD PTR [eax],ecx\n\
+                a fldcw WORD PTR [esp-0x2]\ne ret\n";
+    let words = remarks(&records(text));
+    let loaded = words.iter().find(|words| words.contains("from here on"));
+    let condition = "if no store from 8 on went where that word was kept";
+    assert!(
+        loaded.is_some_and(|words| words.ends_with(condition)),
+        "{words:?}"
+    );
+}

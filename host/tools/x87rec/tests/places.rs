@@ -421,3 +421,19 @@ fn the_nop_that_moves_the_stack_pointer_to_itself_is_known() {
         );
     }
 }
+
+#[test]
+fn calls_of_64_bit_code_lose_more_registers() {
+    for (name, kept) in [
+        ("r8", false),
+        ("rsi", false),
+        ("rdi", false),
+        ("r12", true),
+        ("rbx", true),
+    ] {
+        let text =
+            format!("0 fld QWORD PTR [{name}]\n2 call 900\n4 fld QWORD PTR [{name}]\n6 ret\n");
+        let told = places(&with(&text, &path(&[])));
+        assert_eq!(told[0] == told[1], kept, "{told:?}");
+    }
+}
