@@ -66,8 +66,8 @@ fn width(insn: &Instruction) -> String {
     let &[Operand::Memory { width, place }] = insn.operands.as_slice() else {
         return Detail::Width.to_string();
     };
-    let taken = WIDTHS.into_iter().filter(|&width| {
-        let operands = vec![Operand::memory(width, place)];
+    let taken = WIDTHS.into_iter().filter(|&bits| {
+        let operands = vec![Operand::memory(bits, place)];
         !declines(insn, operands, Detail::Width)
     });
     let taken = listed(taken);
@@ -102,25 +102,49 @@ fn listed<T: ToString>(all: impl Iterator<Item = T>) -> String {
 #[cfg(test)]
 mod tests {
     use super::WIDTHS;
-    use sleetgate::{Instruction, Operand, Place, why};
+    use sleetgate::{Detail, Instruction, Operand, Place, why};
 
-    /// The names that take memory.
-    const NAMES: [&str; 25] = [
-        "fadd", "fcom", "fcomp", "fdiv", "fdivr", "fiadd", "ficom", "ficomp", "fidiv", "fidivr",
-        "fild", "fimul", "fist", "fistp", "fisttp", "fisub", "fisubr", "fld", "fmul", "fnstsw",
-        "fst", "fstp", "fstsw", "fsub", "fsubr",
+    /// The names that the lifter knows.
+    const NAMES: [&str; 56] = [
+        "fabs", "fadd", "faddp", "fchs", "fcmovb", "fcmovbe", "fcmove", "fcmovnb", "fcmovnbe",
+        "fcmovne", "fcmovnu", "fcmovu", "fcom", "fcomi", "fcomip", "fcomp", "fcompi", "fcompp",
+        "fdiv", "fdivp", "fdivr", "fdivrp", "fiadd", "ficom", "ficomp", "fidiv", "fidivr", "fild",
+        "fimul", "fist", "fistp", "fisttp", "fisub", "fisubr", "fld", "fld1", "fldz", "fmul",
+        "fmulp", "fnstsw", "frndint", "fsqrt", "fst", "fstp", "fstsw", "fsub", "fsubp", "fsubr",
+        "fsubrp", "fucom", "fucomi", "fucomip", "fucomp", "fucompi", "fucompp", "fxch",
     ];
+
+    fn detail(name: &str, operands: &[Operand]) -> Option<Detail> {
+        let insn = Instruction::new(0, name, operands.to_vec());
+        why(&insn).expect("it is not refused")
+    }
+
+    fn memory(width: u16) -> [Operand; 1] {
+        [Operand::memory(width, Place::Address(1))]
+    }
 
     #[test]
     fn no_name_takes_another_width() {
-        for name in NAMES {
-            let takes = |&width: &u16| {
-                let memory = Operand::memory(width, Place::Address(1));
-                why(&Instruction::new(0, name, [memory])) == Ok(None)
-            };
+        let mut names = NAMES.to_vec();
+        names.retain(|name| detail(name, &memory(0)) == Some(Detail::Width));
+        assert_eq!(names.len(), 25);
+        for name in names {
+            let takes = |&width: &u16| detail(name, &memory(width)).is_none();
             let taken: Vec<u16> = (0..=u16::MAX).filter(takes).collect();
-            let listed = WIDTHS.into_iter().filter(takes);
-            assert!(!taken.is_empty() && listed.eq(taken), "{name}");
+            let asked = WIDTHS.into_iter().filter(takes);
+            assert!(!taken.is_empty() && asked.eq(taken), "{name}");
+        }
+    }
+
+    #[test]
+    fn a_name_with_two_operands_takes_the_top_twice() {
+        let others = [Operand::Other, Operand::Other];
+        let mut names = NAMES.to_vec();
+        names.retain(|name| detail(name, &others) != Some(Detail::OperandCount));
+        assert_eq!(names.len(), 26);
+        for name in names {
+            let tops = [Operand::st(0), Operand::st(0)];
+            assert_eq!(detail(name, &tops), None, "{name}");
         }
     }
 }

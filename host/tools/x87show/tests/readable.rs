@@ -201,62 +201,63 @@ fn reason(insn: &Instruction, why: Option<&str>) -> String {
     said.expect("it is declined").to_owned()
 }
 
-/// With its record, more can be said than in [`declines_are_said_in_words`].
+/// Declines, and what can be said of each with its record.
+const DECLINES: [(&str, &str); 20] = [
+    ("fprem", "the lifter does not know the name fprem"),
+    ("call ?", "the lifter does not know the name call"),
+    ("fld1 st(1)", "it has 1 operand, and its name takes 0"),
+    ("fld", "it has 0 operands, and its name takes 1"),
+    ("fadd", "it has 0 operands, and its name takes 1 or 2"),
+    (
+        "fxch st(0) 7@?",
+        "it has 2 operands, and its name takes 0 or 1",
+    ),
+    (
+        "faddp ? ? ?",
+        "it has 3 operands, and its name takes 0, 1 or 2",
+    ),
+    ("fxch st(8)", "its name does not take st(8)"),
+    ("fnstsw eax", "its name does not take eax"),
+    ("fucom 32@1", "its name does not take memory"),
+    (
+        "fld ?",
+        "its name does not take what is read as neither register nor memory",
+    ),
+    (
+        "fadd st(0) 32@1",
+        "its name does not take memory as operand 2",
+    ),
+    ("fcomi eax ebx", "its name does not take ebx as operand 2"),
+    (
+        "fcmovb st(1) st(2)",
+        "its name does not take st(1) as operand 1",
+    ),
+    (
+        "fcmovb st(1) ax",
+        "its name does not take st(1) as operand 1, nor ax as operand 2",
+    ),
+    ("fstp 7@?", "the address of its memory operand is not known"),
+    (
+        "fist 64@1",
+        "its memory operand has 64 bits, and its name takes 16 or 32",
+    ),
+    (
+        "fld 128@1",
+        "its memory operand has 128 bits, and its name takes 32, 64 or 80",
+    ),
+    (
+        "fnstsw 32@1",
+        "its memory operand has 32 bits, and its name takes 16",
+    ),
+    (
+        "fadd 0@1",
+        "the width of its memory operand is not known, and its name takes 32 or 64 bits",
+    ),
+];
+
 #[test]
 fn a_decline_says_what_the_name_does_not_take() {
-    let declines = [
-        ("fprem", "the lifter does not know the name fprem"),
-        ("call ?", "the lifter does not know the name call"),
-        ("fld1 st(1)", "it has 1 operand, and its name takes 0"),
-        ("fld", "it has 0 operands, and its name takes 1"),
-        ("fadd", "it has 0 operands, and its name takes 1 or 2"),
-        (
-            "fxch st(0) 7@?",
-            "it has 2 operands, and its name takes 0 or 1",
-        ),
-        (
-            "faddp ? ? ?",
-            "it has 3 operands, and its name takes 0, 1 or 2",
-        ),
-        ("fxch st(8)", "its name does not take st(8)"),
-        ("fnstsw eax", "its name does not take eax"),
-        ("fucom 32@1", "its name does not take memory"),
-        (
-            "fld ?",
-            "its name does not take what is read as neither register nor memory",
-        ),
-        (
-            "fadd st(0) 32@1",
-            "its name does not take memory as operand 2",
-        ),
-        ("fcomi eax ebx", "its name does not take ebx as operand 2"),
-        (
-            "fcmovb st(1) st(2)",
-            "its name does not take st(1) as operand 1",
-        ),
-        (
-            "fcmovb st(1) ax",
-            "its name does not take st(1) as operand 1, nor ax as operand 2",
-        ),
-        ("fstp 7@?", "the address of its memory operand is not known"),
-        (
-            "fist 64@1",
-            "its memory operand has 64 bits, and its name takes 16 or 32",
-        ),
-        (
-            "fld 128@1",
-            "its memory operand has 128 bits, and its name takes 32, 64 or 80",
-        ),
-        (
-            "fnstsw 32@1",
-            "its memory operand has 32 bits, and its name takes 16",
-        ),
-        (
-            "fadd 0@1",
-            "the width of its memory operand is not known, and its name takes 32 or 64 bits",
-        ),
-    ];
-    for (line, words) in declines {
+    for (line, words) in DECLINES {
         assert_eq!(reason(&instruction(0x10, line), None), words, "{line}");
     }
 }
@@ -309,16 +310,6 @@ fn what_is_no_listing_is_named() {
         wrong("s 0 3 0 0 0\n"),
         at(1, "a statement names a node of its width")
     );
-    for row in [
-        "6 1 16 0",
-        "6 1 16 20",
-        "6 1 16 26",
-        "6 2 16 21",
-        "6 0 16 21",
-    ] {
-        let why = at(1, "there is no such statement");
-        assert_eq!(wrong(&format!("s 0 {row}\nd 0 0 0\n")), why, "{row}");
-    }
     assert_eq!(line("d 1 0 0\n"), 1);
     assert_eq!(wrong("d 0 0 0\nr 2 0\n"), at(2, "there is no such refusal"));
     assert_eq!(line("d 0 0 0\nd 0 0 0\n"), 2);
@@ -335,6 +326,15 @@ fn what_is_no_listing_is_named() {
         at(2, "a state has a node of 79 bits for each place")
     );
     assert_eq!(wrong("d 0 0 zero\n"), at(1, "fields are decimal numbers"));
+}
+
+#[test]
+fn a_decline_has_an_answer_and_a_detail_of_its_own() {
+    for row in ["1 16 0", "1 16 20", "1 16 26", "2 16 21", "0 16 21"] {
+        let wrong = show(&format!("s 0 6 {row}\nd 0 0 0\n"), None);
+        let why = "there is no such statement";
+        assert_eq!(wrong, Err(Wrong::Line { line: 1, why }), "{row}");
+    }
 }
 
 #[test]
