@@ -24,6 +24,9 @@ enum Takes {
 
 use Takes::{Anything, AxOrMemory, Memory, Place, PlaceOrMemory, Top};
 
+/// Whether a detail holds of an operand, where this is taken.
+type Test = fn(Takes, &Operand) -> bool;
+
 /// The lists of operands that a name takes, no two of one length.
 type Lists = &'static [&'static [Takes]];
 
@@ -78,12 +81,12 @@ pub fn why(insn: &Instruction) -> u32 {
     let Some(list) = lists.iter().find(|list| list.len() == given.len()) else {
         return WRONG_COUNT;
     };
-    let tests: [(u32, fn(Takes, &Operand) -> bool); 3] = [
+    let tests: [(u32, Test); 3] = [
         (WRONG_KIND, wrong_kind),
         (UNKNOWN_ADDRESS, unknown_address),
         (WRONG_WIDTH, wrong_width),
     ];
-    let holds = |test: fn(Takes, &Operand) -> bool| {
+    let holds = |test: Test| {
         let mut operands = list.iter().zip(given);
         operands.any(|(&takes, operand)| test(takes, operand))
     };
