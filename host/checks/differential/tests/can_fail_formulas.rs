@@ -392,6 +392,10 @@ impl Subject for FaultyRecords {
         Library.classify(flat, out)
     }
 
+    fn why(&self, flat: &[u8], out: &mut [u64]) -> u32 {
+        Library.why(flat, out)
+    }
+
     fn effect(&self, flat: &[u8], out: &mut [u64]) -> u32 {
         Library.effect(flat, out)
     }
@@ -406,8 +410,9 @@ impl Subject for FaultyRecords {
         state: &mut [u64],
         nodes: &mut [u64],
         statements: &mut [u64],
+        out: &mut [u64],
     ) -> u32 {
-        Library.lift(flat, state, nodes, statements)
+        Library.lift(flat, state, nodes, statements, out)
     }
 }
 
@@ -428,8 +433,8 @@ impl RecordLifter for FaultyRecords {
 }
 
 #[test]
-fn wrong_places_and_states_of_a_lifted_record_are_reported() {
-    let faults: [Mistell; 5] = [
+fn wrong_places_states_and_details_of_a_lifted_record_are_reported() {
+    let faults: [Mistell; 9] = [
         // A refusal of the lifter has the place behind the record.
         |number, _, _, out| {
             if number == 6 {
@@ -458,6 +463,30 @@ fn wrong_places_and_states_of_a_lifted_record_are_reported() {
         |number, at, _, out| {
             if number == 3 {
                 out[0] = at as u64;
+            }
+        },
+        // A decline has no detail.
+        |number, _, _, out| {
+            if number == 1 {
+                out[2] = 0;
+            }
+        },
+        // An overflow has one.
+        |number, _, _, out| {
+            if number == 2 {
+                out[2] = 21;
+            }
+        },
+        // A refusal of the reader has one.
+        |number, _, _, out| {
+            if number == 12 {
+                out[2] = 21;
+            }
+        },
+        // A word beyond the detail is written.
+        |_, _, _, out| {
+            if let Some(word) = out.get_mut(3) {
+                *word = 0;
             }
         },
     ];
