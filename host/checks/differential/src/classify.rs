@@ -20,8 +20,8 @@ struct Case {
 }
 
 /// Compare `size` cases. With room for the whole grid the grid comes
-/// first, and random cases follow; with less, the cases are spread over
-/// the grid, and one in eight is random.
+/// first, random cases follow, and each detail must be among them; with
+/// less, the cases are spread over the grid, and one in eight is random.
 pub fn run(subject: &impl Subject, size: u64, seed: u64) -> Report {
     let grid = Grid::default();
     let mut rng = Rng::new(seed);
@@ -41,6 +41,9 @@ pub fn run(subject: &impl Subject, size: u64, seed: u64) -> Report {
             random_case(&grid, &mut rng)
         };
         compare(subject, &case, &mut report);
+    }
+    if whole && report.details.contains(&0) {
+        report.differs(|| "a detail that nothing of the grid has".to_string());
     }
     report
 }

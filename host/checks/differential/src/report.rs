@@ -92,9 +92,11 @@ impl fmt::Display for Report {
                 writeln!(f, "  expecting {number} ({name}): {count}")?;
             }
         }
-        let details = DETAILS.iter().zip(DETAIL_NAMES).zip(self.details);
-        for ((detail, name), count) in details.filter(|(_, count)| *count != 0) {
-            writeln!(f, "  with detail {detail} ({name}): {count}")?;
+        if self.details != [0; DETAILS.len()] {
+            let details = DETAILS.iter().zip(DETAIL_NAMES).zip(self.details);
+            for ((detail, name), count) in details {
+                writeln!(f, "  with detail {detail} ({name}): {count}")?;
+            }
         }
         for (name, count) in &self.notes {
             writeln!(f, "  {name}: {count}")?;

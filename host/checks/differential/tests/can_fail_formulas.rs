@@ -432,9 +432,17 @@ impl RecordLifter for FaultyRecords {
     }
 }
 
+/// Each of these faults in the call on a record is reported.
+fn records_reported(faults: &[Mistell]) {
+    for &fault in faults {
+        let report = record_lifts::run(&FaultyRecords(fault), 20_000, 3);
+        shown(&report, "lift_record at ");
+    }
+}
+
 #[test]
-fn wrong_places_states_and_details_of_a_lifted_record_are_reported() {
-    let faults: [Mistell; 9] = [
+fn wrong_places_and_states_of_a_lifted_record_are_reported() {
+    let faults: [Mistell; 5] = [
         // A refusal of the lifter has the place behind the record.
         |number, _, _, out| {
             if number == 6 {
@@ -465,6 +473,13 @@ fn wrong_places_states_and_details_of_a_lifted_record_are_reported() {
                 out[0] = at as u64;
             }
         },
+    ];
+    records_reported(&faults);
+}
+
+#[test]
+fn wrong_details_of_a_lifted_record_are_reported() {
+    let faults: [Mistell; 4] = [
         // A decline has no detail.
         |number, _, _, out| {
             if number == 1 {
@@ -490,10 +505,7 @@ fn wrong_places_states_and_details_of_a_lifted_record_are_reported() {
             }
         },
     ];
-    for fault in faults {
-        let report = record_lifts::run(&FaultyRecords(fault), 20_000, 3);
-        shown(&report, "lift_record at ");
-    }
+    records_reported(&faults);
 }
 
 #[test]

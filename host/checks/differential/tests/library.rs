@@ -173,67 +173,70 @@ fn the_binding_tests_lengths_first() {
 /// A call that is lent words to tell.
 type Call = fn(&mut [u64]) -> u32;
 
+/// How many words each call tells, and the call with another slice too
+/// short, by the binding and by the library.
+const TOO_SHORT: [(usize, [Call; 2]); 8] = [
+    (
+        8,
+        [
+            |out| sleetgate_sys::classify(&[0; 176], out),
+            |out| untested::classify(&[0; 176], out),
+        ],
+    ),
+    (
+        1,
+        [
+            |out| sleetgate_sys::why(&[0; 176], out),
+            |out| untested::why(&[0; 176], out),
+        ],
+    ),
+    (
+        7,
+        [
+            |out| sleetgate_sys::effect(&[0; 176], out),
+            |out| untested::effect(&[0; 176], out),
+        ],
+    ),
+    (
+        2,
+        [
+            |out| sleetgate_sys::read_record(&[], 0, &mut [0; 176], out),
+            |out| untested::read_record(&[], 0, &mut [0; 176], out),
+        ],
+    ),
+    (
+        1,
+        [
+            |out| sleetgate_sys::lift(&[0; 176], &mut [0; 13], &mut [], &mut [], out),
+            |out| untested::lift(&[0; 176], &mut [0; 13], &mut [], &mut [], out),
+        ],
+    ),
+    (
+        1,
+        [
+            |out| sleetgate_sys::lift(&[0; 177], &mut [0; 12], &mut [], &mut [], out),
+            |out| untested::lift(&[0; 177], &mut [0; 12], &mut [], &mut [], out),
+        ],
+    ),
+    (
+        3,
+        [
+            |out| sleetgate_sys::lift_record(&[], 0, &mut [0; 12], &mut [], &mut [], out),
+            |out| untested::lift_record(&[], 0, &mut [0; 12], &mut [], &mut [], out),
+        ],
+    ),
+    (
+        2,
+        [
+            |out| sleetgate_sys::image_read(&[0; 9], 0, 0, out),
+            |out| untested::image_read(&[0; 9], 0, 0, out),
+        ],
+    ),
+];
+
 #[test]
 fn zeros_are_told_beside_10() {
-    let calls: [(usize, [Call; 2]); 8] = [
-        (
-            8,
-            [
-                |out| sleetgate_sys::classify(&[0; 176], out),
-                |out| untested::classify(&[0; 176], out),
-            ],
-        ),
-        (
-            1,
-            [
-                |out| sleetgate_sys::why(&[0; 176], out),
-                |out| untested::why(&[0; 176], out),
-            ],
-        ),
-        (
-            7,
-            [
-                |out| sleetgate_sys::effect(&[0; 176], out),
-                |out| untested::effect(&[0; 176], out),
-            ],
-        ),
-        (
-            2,
-            [
-                |out| sleetgate_sys::read_record(&[], 0, &mut [0; 176], out),
-                |out| untested::read_record(&[], 0, &mut [0; 176], out),
-            ],
-        ),
-        (
-            1,
-            [
-                |out| sleetgate_sys::lift(&[0; 176], &mut [0; 13], &mut [], &mut [], out),
-                |out| untested::lift(&[0; 176], &mut [0; 13], &mut [], &mut [], out),
-            ],
-        ),
-        (
-            1,
-            [
-                |out| sleetgate_sys::lift(&[0; 177], &mut [0; 12], &mut [], &mut [], out),
-                |out| untested::lift(&[0; 177], &mut [0; 12], &mut [], &mut [], out),
-            ],
-        ),
-        (
-            3,
-            [
-                |out| sleetgate_sys::lift_record(&[], 0, &mut [0; 12], &mut [], &mut [], out),
-                |out| untested::lift_record(&[], 0, &mut [0; 12], &mut [], &mut [], out),
-            ],
-        ),
-        (
-            2,
-            [
-                |out| sleetgate_sys::image_read(&[0; 9], 0, 0, out),
-                |out| untested::image_read(&[0; 9], 0, 0, out),
-            ],
-        ),
-    ];
-    for (words, both) in calls {
+    for (words, both) in TOO_SHORT {
         for call in both {
             let mut out = [7; 16];
             assert_eq!(call(&mut out[..words - 1]), 10);

@@ -184,12 +184,10 @@ mod tests {
             .copied()
             .collect();
         names.sort_unstable();
-        names.dedup();
         assert_eq!(names.len(), 56);
+        assert!(names.is_sorted_by(|a, b| a < b));
         for (names, lists) in NAMES {
-            let mut lengths: Vec<usize> = lists.iter().map(|list| list.len()).collect();
-            lengths.dedup();
-            assert_eq!(lengths.len(), lists.len(), "{names:?}");
+            assert!(lists.is_sorted_by(|a, b| a.len() < b.len()), "{names:?}");
         }
     }
 
