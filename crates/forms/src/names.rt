@@ -336,7 +336,7 @@ fn key(s: &[u8]) -> u64
 }
 
 // What a mnemonic stands for.
-fn family(s: &[u8]) -> Family
+pub fn family(s: &[u8]) -> Family
     ensures { λ r. ⌜ r ≡ familyOf (now (s .entry)) ⌝ }
 {
     let t = texts::trim(s);

@@ -1,6 +1,6 @@
 -- What an instruction answers: a form 0 or 2, and 1 is a decline's alone
-use mathlib.Core.Path.{_≡_, refl, _∙_}
-use mathlib.Core.Bool.{Bool, true, false, cond, _||_}
+use mathlib.Core.Path.{_≡_, refl}
+use mathlib.Core.Bool.{Bool, true, false, cond, true≢false, false≢true}
 use mathlib.Core.List.{List}
 use Prim.Native.Nat.{ℕ}
 use lib.Dec.{eqb, leb}
@@ -26,7 +26,7 @@ use Rattle.moves.specs.Moves.{x87ArithOf, x87CompareStatusOf, x87CompareFlagsOf
 use Rattle.moves.specs.Pushes.{declineX87Of, landOf, pushConstOf, pushSlotOf, pushMemoryOf}
 use Rattle.lifter.specs.Apply.{applyX87Of}
 use Rattle.lifter.specs.Lift.{loweredOf, fittingOf, liftOf, Lifts}
-use Rattle.lifter.specs.Inside.{reasonOf, besideOf}
+use Rattle.lifter.specs.Inside.{declinedIs, besideOf}
 
 -- The answer passes a test that 0 and 2 pass
 module _ (test : ℕ → Bool) (zero-so : test 0 ≡ true) (two-so : test 2 ≡ true) where
@@ -60,52 +60,64 @@ module _ (test : ℕ → Bool) (zero-so : test 0 ≡ true) (two-so : test 2 ≡ 
   apply-answers s (Exchange index) site = zero-so
   apply-answers s (Unary op) site = zero-so
 
--- The detail that is carried is the instruction's where it is looked at: in a decline's statement
-pub lowered-reason : (s : State) (c : Classified) (detail : ℕ) (site : Site) → loweredOf s c (reasonOf c detail) site ≡ loweredOf s c detail site
+-- What is not declined looks at no detail
+undetailed : (s : State) (c : Classified) (d e : ℕ) (site : Site) → declinedIs c ≡ false → loweredOf s c d site ≡ loweredOf s c e site
 unfolding loweredOf
-lowered-reason s (Modelled form) detail site = refl
-lowered-reason s Declined detail site = refl
-lowered-reason s BadText detail site = refl
-lowered-reason s BadOperands detail site = refl
+undetailed s (Modelled form) d e site h = refl
+undetailed s Declined d e site h = absurd (true≢false h)
+undetailed s BadText d e site h = refl
+undetailed s BadOperands d e site h = refl
 
--- .. and beside an answer 1
+-- .. and does not answer 1
 not-one : ℕ → Bool
 not-one n = cond (eqb n 1) false true
 
-silent : (answer a b : ℕ) → not-one answer ≡ true → besideOf answer a ≡ besideOf answer b
-unfolding not-one
-silent answer a b h = way (eqb answer 1) h
+other-answer : (s : State) (c : Classified) (d : ℕ) (site : Site) → declinedIs c ≡ false → not-one (loweredOf s c d site .val) ≡ true
+unfolding loweredOf gives not-one
+other-answer s (Modelled form) d site h = apply-answers not-one refl refl s form site
+other-answer s Declined d site h = absurd (true≢false h)
+other-answer s BadText d site h = refl
+other-answer s BadOperands d site h = refl
+
+-- .. also where it does not fit
+fitted-other : (b : Built) (s : State) (n m : List ℕ) → not-one (b .val) ≡ true → not-one (fittingOf b s n m .val) ≡ true
+unfolding fittingOf gives not-one
+fitted-other b s n m h = way (leb (b .st .nodes) (roomOf (length n))) (leb (b .st .statements) (roomOf (length m)))
   where
-    way : (t : Bool) → cond t false true ≡ true → cond t a 0 ≡ cond t b 0
-    way true e = let z : _≡_ {A = Bool} false true = e in cc
-    way false e = refl
+    way : (t u : Bool) → not-one (cond t (cond u b (gives s 7)) (gives s 6) .val) ≡ true
+    way true true = h
+    way true false = refl
+    way false u = refl
 
-module _ (s : State) (detail : ℕ) (site : Site) (nodes statements : List ℕ) where
-  fitted : (c : Classified) → not-one (loweredOf s c detail site .val) ≡ true → (a b : ℕ)
-      → let r = fittingOf (loweredOf s c detail site) s nodes statements .val in besideOf r a ≡ besideOf r b
-  unfolding fittingOf not-one gives
-  fitted c h a b = way (leb (loweredOf s c detail site .st .nodes) (roomOf (length nodes))) (leb (loweredOf s c detail site .st .statements) (roomOf (length statements)))
+silent : (answer w : ℕ) → not-one answer ≡ true → 0 ≡ cond (eqb answer 1) w 0
+unfolding not-one
+silent answer w = way (eqb answer 1)
+  where
+    way : (t : Bool) → cond t false true ≡ true → 0 ≡ cond t w 0
+    way true h = absurd (false≢true h)
+    way false h = refl
+
+module _ (s : State) (insn : Instruction) (n m : List ℕ) (v : validOf s (roomOf (length n)) (roomOf (length m)) ≡ true) (c : Classified) (p : c ≡ classifyOf insn) where
+  -- A DECLINE: its detail is given beside answer 1
+  pub lifts-declined : declinedIs c ≡ true → {t : State} {a r : ℕ} {n′ m′ : List ℕ}
+      → Does (fittingOf (loweredOf s Declined (whyOf insn) (siteOf insn)) s n m) t a n n′ m m′ × (r ≡ besideOf a (whyOf insn)) → Lifts (liftOf s insn n m) insn t a r n n′ m m′
+  unfolding liftOf detailOf
+  lifts-declined h x = record { does = rw (v, ← p, declined-so c h) (x .0); detail-is = x .1 }
     where
-      way : (t u : Bool) → let r = cond t (cond u (loweredOf s c detail site) (gives s 7)) (gives s 6) .val in besideOf r a ≡ besideOf r b
-      way true true = silent (loweredOf s c detail site .val) a b h
-      way true false = refl
-      way false u = refl
+      declined-so : (c : Classified) → declinedIs c ≡ true → c ≡ Declined
+      declined-so (Modelled form) h = absurd (false≢true h)
+      declined-so Declined h = refl
+      declined-so BadText h = absurd (false≢true h)
+      declined-so BadOperands h = absurd (false≢true h)
 
-  pub beside-reason : (c : Classified) → let r = fittingOf (loweredOf s c detail site) s nodes statements .val in besideOf r (reasonOf c detail) ≡ besideOf r detail
-  unfolding loweredOf gives not-one
-  beside-reason (Modelled form) = fitted (Modelled form) (apply-answers not-one refl refl s form site) _ _
-  beside-reason Declined = refl
-  beside-reason BadText = fitted BadText refl _ _
-  beside-reason BadOperands = fitted BadOperands refl _ _
-
--- THE CALL: what is fitted with the detail that is carried is the lift, and the detail beside its answer is the one that is given
-pub lifted : (s : State) (insn : Instruction) (n m : List ℕ) → validOf s (roomOf (length n)) (roomOf (length m)) ≡ true → (c : Classified) (d : ℕ) (site : Site) (t : State) (a r : ℕ) (n′ m′ : List ℕ)
-    → c ≡ classifyOf insn → d ≡ reasonOf c (whyOf insn) → site ≡ siteOf insn
-    → Does (fittingOf (loweredOf s c d site) s n m) t a n n′ m m′ → r ≡ besideOf a d → Lifts (liftOf s insn n m) insn t a r n n′ m m′
-unfolding liftOf detailOf
-lifted s insn n m v c d site t a r n′ m′ p q w x e =
-    let y : Does (fittingOf (loweredOf s (classifyOf insn) (whyOf insn) (siteOf insn)) s n m) t a n n′ m m′ = rw (q, p, w, lowered-reason s (classifyOf insn) (whyOf insn) (siteOf insn)) at x in
-    record { does = rw v y; detail-is = e ∙ rw (q, p, y .number) (beside-reason s (whyOf insn) (siteOf insn) n m (classifyOf insn)) }
+  -- ANYTHING ELSE has none
+  pub lifts-other : declinedIs c ≡ false → (d : ℕ) {site : Site} {t : State} {a : ℕ} {n′ m′ : List ℕ} → site ≡ siteOf insn
+      → Does (fittingOf (loweredOf s c d site) s n m) t a n n′ m m′ → Lifts (liftOf s insn n m) insn t a 0 n n′ m m′
+  unfolding liftOf detailOf
+  lifts-other h d {a = a} q x =
+      let y = rw (undetailed s c d (whyOf insn) _ h, q) at x in
+      let z : not-one a ≡ true = rw (y .number) (fitted-other _ s n m (other-answer s c (whyOf insn) (siteOf insn) h)) in
+      record { does = rw (v, ← p) y; detail-is = silent a (whyOf insn) z }
 
 -- .. and one that is refused with 5 has none
 pub not-lifted : (s : State) (insn : Instruction) (n m : List ℕ) → validOf s (roomOf (length n)) (roomOf (length m)) ≡ false → Lifts (liftOf s insn n m) insn s 5 0 n n m m

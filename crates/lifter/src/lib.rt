@@ -7,7 +7,8 @@ ghost use Rattle.lists.specs.Steps.{Does};
 ghost use Rattle.lifter.specs.Apply.{applyX87Of};
 ghost use Rattle.details.specs.Why.{whyOf};
 ghost use Rattle.lifter.specs.Lift.{loweredOf, fittingOf, liftOf, Lifts};
-ghost use Rattle.lifter.specs.Inside.{reasonOf, besideOf};
+ghost use Rattle.lifter.specs.Inside.{declinedIs, besideOf};
+ghost use Rattle.memory.specs.Site.{siteOf};
 use forms::Classified;
 use forms::Form;
 use forms::Instruction;
@@ -142,15 +143,15 @@ fn fit(
     fit_tight(nodes, statements, s, classified, detail, site)
 }
 
-// The detail of an instruction that is declined: it is worked out for no other.
-fn reason(classified: Classified, insn: Instruction) -> u32
-    ensures { λ r. ⌜ r ≡ reasonOf classified (whyOf insn) ⌝ }
+// Whether an answer of `classify` is the decline.
+fn declined(classified: Classified) -> bool
+    ensures { λ r. ⌜ r ≡ declinedIs classified ⌝ }
 {
     match classified {
-        Classified::Modelled(_) => 0,
-        Classified::Declined => details::why(insn),
-        Classified::BadText => 0,
-        Classified::BadOperands => 0,
+        Classified::Modelled(_) => false,
+        Classified::Declined => true,
+        Classified::BadText => false,
+        Classified::BadOperands => false,
     }
 }
 
@@ -164,19 +165,42 @@ fn beside(answer: u32, detail: u32) -> u32
     0
 }
 
+// Lifts an instruction that `classify` declines: only here its detail is worked out.
+fn decline(nodes: &mut [u64], statements: &mut [u64], s: State, insn: Instruction) -> Lifted
+    ensures { λ r. ⌜ Does (fittingOf (loweredOf s Classified.Declined (whyOf insn) (siteOf insn)) s (now (nodes .entry)) (now (statements .entry))) (r .state) (r .answer) (now (nodes .entry)) (now (nodes .exit)) (now (statements .entry)) (now (statements .exit)) × (r .detail ≡ besideOf (r .answer) (whyOf insn)) ⌝ }
+{
+    let detail = details::why(insn);
+    let done = fit_tight(
+        nodes,
+        statements,
+        s,
+        Classified::Declined,
+        detail,
+        memory::site_of(insn),
+    );
+    let state = done.state;
+    Lifted {
+        state,
+        answer: done.answer,
+        detail: beside(done.answer, detail),
+    }
+}
+
 // Lifts one instruction: 0 modelled, 1 and 2 declined, 3 to 7 refused with nothing changed.
 pub fn lift(nodes: &mut [u64], statements: &mut [u64], s: State, insn: Instruction) -> Lifted
     ensures { λ r. ⌜ Lifts (liftOf s insn (now (nodes .entry)) (now (statements .entry))) insn (r .state) (r .answer) (r .detail) (now (nodes .entry)) (now (nodes .exit)) (now (statements .entry)) (now (statements .exit)) ⌝ }
 {
     if lists::valid(s, lists::room(nodes.len()), lists::room(statements.len())) {
         let classified = forms::classify(insn);
-        let detail = reason(classified, insn);
-        let done = fit(nodes, statements, s, classified, detail, memory::site_of(insn));
+        if declined(classified) {
+            return decline(nodes, statements, s, insn);
+        }
+        let done = fit(nodes, statements, s, classified, 0, memory::site_of(insn));
         let state = done.state;
         return Lifted {
             state,
             answer: done.answer,
-            detail: beside(done.answer, detail),
+            detail: 0,
         };
     }
     Lifted {

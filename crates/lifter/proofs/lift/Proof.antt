@@ -1,5 +1,5 @@
 use mathlib.Core.Path.{sym, _∙_}
-use Rattle.lifter.proofs.Answers.{lifted, not-lifted}
+use Rattle.lifter.proofs.Answers.{lifts-declined, lifts-other, not-lifted}
 use borrow.Author.Needs.{needs}
 use Rattle.lifter.proofs.lift.Statement.{statement}
 use Rattle.lifter.proofs.lift.Tie as tie
@@ -16,17 +16,11 @@ valid-requires c κs = search needs
 classify-requires : tie.Need-classify-requires
 classify-requires c κs = search needs
 
-reason-requires : tie.Need-reason-requires
-reason-requires c κs = search needs
+declined-requires : tie.Need-declined-requires
+declined-requires c κs = search needs
 
-site-of-requires : tie.Need-site-of-requires
-site-of-requires c κs = search needs
-
-fit-requires : tie.Need-fit-requires
-fit-requires c κs = search needs
-
-beside-requires : tie.Need-beside-requires
-beside-requires c κs = search needs
+decline-requires : tie.Need-decline-requires
+decline-requires c κs = search needs
 
 same-length : tie.Need-same-length
 same-length c = search needs
@@ -36,13 +30,32 @@ same-length-2 c = search needs
 
 returns : tie.Need-returns
 returns c =
-    let i = c .before .before .before .before .before .before .before .before .before in
-    let k = i .before .before in
-    let v = sym (rw (k .before .before .before .before .room .ensures, k .before .before .before .room2 .ensures) at (k .before .before .valid .ensures)) ∙ k .before .if1 .taken in
-    lifted _ _ _ _ v _ _ _ _ _ _ _ _ (k .classify .ensures) (i .before .reason .ensures) (c .before .before .before .before .before .before .before .site-of .ensures) (c .before .before .before .before .before .before .fit .ensures) (c .beside .ensures)
+    let k = c .before .before .before .before .before .before .before in
+    let j = k .before .before in
+    let v = sym (rw (j .before .before .before .before .room .ensures, j .before .before .before .room2 .ensures) at (j .before .before .valid .ensures)) ∙ j .before .if1 .taken in
+    lifts-declined _ _ _ _ v _ (j .classify .ensures) (sym (k .before .declined .ensures) ∙ k .if2 .taken) (c .before .before .before .before .decline .ensures)
+
+site-of-requires : tie.Need-site-of-requires
+site-of-requires c κs = search needs
+
+fit-requires : tie.Need-fit-requires
+fit-requires c κs = search needs
+
+same-length-3 : tie.Need-same-length-3
+same-length-3 c = search needs
+
+same-length-4 : tie.Need-same-length-4
+same-length-4 c = search needs
 
 returns-2 : tie.Need-returns-2
 returns-2 c =
+    let k = c .before .before .before .before .before .before .before .before .before in
+    let j = k .before .before in
+    let v = sym (rw (j .before .before .before .before .room .ensures, j .before .before .before .room2 .ensures) at (j .before .before .valid .ensures)) ∙ j .before .if1 .taken in
+    lifts-other _ _ _ _ v _ (j .classify .ensures) (sym (k .before .declined .ensures) ∙ k .if2 .left) 0 (c .before .before .before .before .before .before .site-of .ensures) (c .before .before .before .before .before .fit .ensures)
+
+returns-3 : tie.Need-returns-3
+returns-3 c =
     let v = sym (rw (c .before .before .before .room .ensures, c .before .before .room2 .ensures) at (c .before .valid .ensures)) ∙ c .if1 .left in
     not-lifted _ _ _ _ v
 
@@ -54,11 +67,14 @@ lift-spec =
     room-requires-2
     valid-requires
     classify-requires
-    reason-requires
-    site-of-requires
-    fit-requires
-    beside-requires
+    declined-requires
+    decline-requires
     same-length
     same-length-2
     returns
-    returns-2)
+    site-of-requires
+    fit-requires
+    same-length-3
+    same-length-4
+    returns-2
+    returns-3)
