@@ -138,3 +138,15 @@ impl Drop for Served {
         let _ = self.child.wait();
     }
 }
+
+#[cfg(test)]
+mod tests {
+    use super::Served;
+    use std::path::Path;
+
+    #[test]
+    #[should_panic(expected = "has ended")]
+    fn a_program_that_has_ended_is_told() {
+        Served::start(Path::new("/bin/true")).ask(&[0], &mut [0]);
+    }
+}
