@@ -13,6 +13,7 @@ use Rattle.lists.specs.Steps.{Built, gives}
 use Rattle.lists.specs.Valid.{validOf}
 use Rattle.lists.proofs.Adds.{Adds, nodes-kept, statements-kept}
 use Rattle.forms.specs.Classify.{classifyOf}
+use Rattle.details.specs.Why.{whyOf}
 use Rattle.forms.specs.declared.Instruction.{Instruction}
 use Rattle.memory.specs.Site.{siteOf}
 use Rattle.lifter.specs.Lift.{loweredOf, fittingOf, liftOf}
@@ -24,7 +25,7 @@ use Rattle.agreement.specs.Fine.Valid.{is-valid}
 
 -- What an instruction comes to from here, over lists of any length
 abbrev pub loweredAt : Held → Instruction → Built
-loweredAt h i = loweredOf (h .st) (classifyOf i) (siteOf i)
+loweredAt h i = loweredOf (h .st) (classifyOf i) (whyOf i) (siteOf i)
 
 -- Its rows are counted, stand behind those that were there, and leave them
 pub record Added (h : Held) (b : Built) : Type 0 where
@@ -87,7 +88,7 @@ by-lift P h i p₅ p₆ p₇ f =
 
     way : (x y z : Bool) → validOf (h .st) (roomOf (length (h .nodes))) (roomOf (length (h .statements))) ≡ x → leb (b .st .nodes) (roomOf (length (h .nodes))) ≡ y
         → leb (b .st .statements) (roomOf (length (h .statements))) ≡ z → P (cond x (cond y (cond z b (gives (h .st) 7)) (gives (h .st) 6)) (gives (h .st) 5))
-    way true true true e p q = f e (written h b (lowered-adds (h .st) (classifyOf i) (siteOf i)) e (leb-true _ _ p) (leb-true _ _ q))
+    way true true true e p q = f e (written h b (lowered-adds (h .st) (classifyOf i) (whyOf i) (siteOf i)) e (leb-true _ _ p) (leb-true _ _ q))
     way true true false e p q = p₇
     way true false z e p q = p₆
     way false y z e p q = p₅

@@ -8,6 +8,7 @@ use Rattle.lists.specs.Rows.{wrote, roomOf}
 use Rattle.lists.specs.Steps.{Built, gives}
 use Rattle.lists.specs.declared.State.{State}
 use Rattle.forms.specs.Classify.{classifyOf}
+use Rattle.details.specs.Why.{whyOf}
 use Rattle.forms.specs.declared.Instruction.{Instruction}
 use Rattle.forms.specs.declared.Form.{Form}
 use Rattle.forms.specs.declared.Classified.the-variants.{Modelled}
@@ -45,7 +46,7 @@ module _ (s : State) (i : Instruction) (nodes statements : List ℕ) (form : For
       let y = is-valid s (roomOf (length nodes)) (roomOf (length statements)) v in
       let n = room-words (length nodes) (s .nodes) (y .nodes) in
       let m = room-words (length nodes) (loweredAt from i .st .nodes) (w .room) in
-      let a = lowered-adds s (classifyOf i) (siteOf i) in
+      let a = lowered-adds s (classifyOf i) (whyOf i) (siteOf i) in
       record {
         same = rw e;
         few = n .1;

@@ -1,6 +1,7 @@
 -- THEOREM 14: WHAT IS TOLD BESIDE A REFUSAL.
 -- Every exported call that is lent words to tell goes by one rule (`Tells` in export/specs/Answers). Beside an answer other than 0 these words are 0,
--- but a place that is named, for whatever bytes, records and lists the call is given; a call of lift on a record that was lifted, declined or not, tells the next place and 1
+-- but a place that is named and beside a decline its detail, for whatever bytes, records and lists the call is given; a call of lift on a record that was lifted,
+-- declined or not, tells the next place and 1
 use mathlib.Core.Path.{_≡_, refl}
 use mathlib.Core.Bool.{Bool, true, false, cond}
 use mathlib.Core.List.{List, [], _∷_}
@@ -27,13 +28,13 @@ use Rattle.export.specs.Lifts.{liftedIn}
 use Rattle.export.specs.Steps.{Stepped, toldOf, stepOf, steppedOf}
 use Rattle.export.specs.Values.{wide, foundSaid}
 
--- Beside a number other than 0, k zeros; or a place and 0
+-- Beside a number other than 0, k zeros; beside a number over 2, k zeros; or a place and k zeros
 abbrev pub Zeros : ℕ → Said → Type 0
 Zeros k x = (x .number ≡ 0 → ⊥) → x .words ≡ replicate k 0
 
-pub record PlaceAndZero (words : List ℕ) : Type 0 where
+pub record PlaceAndZeros (k : ℕ) (words : List ℕ) : Type 0 where
   pub place : ℕ
-  pub told : words ≡ place ∷ 0 ∷ []
+  pub told : words ≡ place ∷ replicate k 0
 
 -- what is too short, or else what is said
 either : (P : Said → Type 0) (t : Bool) (x y : Said) → P x → P y → P (cond t x y)
@@ -65,33 +66,33 @@ unfolding affected
 effect-beside flat = either (Zeros 7) (atLeast 177 flat) _ (tooShort 7) (effect-zeros (effectOf (insnOf flat))) (zeros 7)
 
 -- THE READER OF RECORDS
-pub read-beside : (t : Taken) (flat : List ℕ) → (readInto t flat .number ≡ 0 → ⊥) → PlaceAndZero (readInto t flat .words)
+pub read-beside : (t : Taken) (flat : List ℕ) → (readInto t flat .number ≡ 0 → ⊥) → PlaceAndZeros 1 (readInto t flat .words)
 unfolding readInto
 read-beside t flat = way (atLeast 177 flat) (t .outcome)
   where
     said : Outcome → Said
     said o = record { number = Rattle.records.specs.Numbers.numberOf o; words = Rattle.records.specs.Numbers.placeOf o ∷ Rattle.forms.specs.Numbers.bit (Rattle.records.specs.Numbers.recordIs o) ∷ [] }
 
-    way : (b : Bool) (o : Outcome) → (cond b (said o) (tooShort 2) .number ≡ 0 → ⊥) → PlaceAndZero (cond b (said o) (tooShort 2) .words)
+    way : (b : Bool) (o : Outcome) → (cond b (said o) (tooShort 2) .number ≡ 0 → ⊥) → PlaceAndZeros 1 (cond b (said o) (tooShort 2) .words)
     way true (Record c) h = absurd (h refl)
     way true (End c) h = absurd (h refl)
     way true (Refused r p) h = record { place = p; told = refl }
     way false o h = record { place = 0; told = refl }
 
 -- THE LIFT OF A RECORD: an answer over 2 is a refusal
-told-beside : (r next at : ℕ) → leb r 2 ≡ false → PlaceAndZero (toldOf r next at)
+told-beside : (r detail next at : ℕ) → leb r 2 ≡ false → PlaceAndZeros 2 (toldOf r detail next at)
 unfolding toldOf
-told-beside r next at e = rw e (record { place = at; told = refl })
+told-beside r detail next at e = rw e (record { place = at; told = refl })
 
-pub step-beside : (t : Taken) (at : ℕ) (s n m : List ℕ) → let x = steppedOf t at s n m in leb (x .lifted .answer) 2 ≡ false → PlaceAndZero (x .told)
+pub step-beside : (t : Taken) (at : ℕ) (s n m : List ℕ) → let x = steppedOf t at s n m in leb (x .lifted .answer) 2 ≡ false → PlaceAndZeros 2 (x .told)
 unfolding steppedOf stepOf
 step-beside t at s n m = way (atLeast 13 s) (t .outcome)
   where
     short : Stepped
-    short = record { lifted = Rattle.export.specs.Lifts.unchanged 10 s n m; told = 0 ∷ 0 ∷ [] }
+    short = record { lifted = Rattle.export.specs.Lifts.unchanged 10 s n m; told = 0 ∷ 0 ∷ 0 ∷ [] }
 
-    way : (b : Bool) (o : Outcome) → let x = cond b (stepOf o (t .insn) at s n m) short in leb (x .lifted .answer) 2 ≡ false → PlaceAndZero (x .told)
-    way true (Record c) e = told-beside (liftedIn (t .insn) s n m .answer) (c .at) at e
+    way : (b : Bool) (o : Outcome) → let x = cond b (stepOf o (t .insn) at s n m) short in leb (x .lifted .answer) 2 ≡ false → PlaceAndZeros 2 (x .told)
+    way true (Record c) e = told-beside (liftedIn (t .insn) s n m .answer) (liftedIn (t .insn) s n m .detail) (c .at) at e
     way true (End c) e = record { place = c .at; told = refl }
     way true (Refused r p) e = record { place = p; told = refl }
     way false o e = record { place = 0; told = refl }

@@ -23,10 +23,11 @@ use Rattle.records.specs.Format.{takenAt}
 use Rattle.records.specs.Numbers.{refusalOf}
 use Rattle.records.specs.declared.Outcome.{Outcome}
 use Rattle.records.specs.declared.Outcome.the-variants.{Record, End, Refused}
+use Rattle.details.specs.Why.{detailOf}
 use Rattle.lifter.specs.Lift.{liftOf}
 use Rattle.export.specs.Flat.{insnOf, atLeast}
 use Rattle.export.specs.Lifts.{smallIs, low32, stateIn, stateWords, Lifted, keptIf, done, liftedIn, liftedOf, unchanged}
-use Rattle.export.specs.Steps.{steppedOf, stepOf}
+use Rattle.export.specs.Steps.{calledOf, steppedOf, stepOf}
 use Rattle.agreement.specs.Runs.{Held, begun, answered, stepped, called, ran, ran-on}
 use Rattle.agreement.specs.Refused.{refused}
 use Rattle.agreement.specs.Fine.{Placed}
@@ -37,9 +38,9 @@ use Rattle.agreement.specs.Sorted.{Sound, sorted}
 pub mod Kept
 use Kept.{Narrow, tracked-narrow, state-back, words-small, words-long, zero-state, zero-small, zero-long}
 
--- A call: `x87_lift` on some bytes, or `x87_lift_record` on an input, at a place, with some words lent for what it tells
+-- A call: `x87_lift` on some bytes, or `x87_lift_record` on an input, at a place, each with some words lent for what it tells
 pub data Call : Type 0 where
-  Lift : List ℕ → Call
+  Lift : List ℕ → List ℕ → Call
   LiftRecord : List ℕ → ℕ → List ℕ → Call
 
 -- What is lent from call to call: the state's words, the nodes' and the statements'
@@ -50,9 +51,10 @@ pub record Words : Type 0 where
 
 -- What a call answers and leaves, as it promises
 unfoldable pub promised : Words → Call → Lifted
-promised w (Lift flat) = liftedOf flat (w .state) (w .nodes) (w .statements)
+promised w (Lift flat out) =
+    cond (atLeast 1 out) (calledOf flat (w .state) (w .nodes) (w .statements) .lifted) (unchanged 10 (w .state) (w .nodes) (w .statements))
 promised w (LiftRecord input at out) =
-    cond (atLeast 2 out) (steppedOf (takenAt input at) at (w .state) (w .nodes) (w .statements) .lifted) (unchanged 10 (w .state) (w .nodes) (w .statements))
+    cond (atLeast 3 out) (steppedOf (takenAt input at) at (w .state) (w .nodes) (w .statements) .lifted) (unchanged 10 (w .state) (w .nodes) (w .statements))
 
 unfoldable pub made : Words → Call → Words
 made w c = let x = promised w c in record { state = x .state; nodes = x .nodes; statements = x .statements }
@@ -69,8 +71,8 @@ recorded (End c) i = []
 recorded (Refused r p) i = []
 
 unfoldable pub handed : Call → List Instruction
-handed (Lift flat) = cond (atLeast 177 flat) (insnOf flat ∷ []) []
-handed (LiftRecord input at out) = cond (atLeast 2 out) (recorded (takenAt input at .outcome) (takenAt input at .insn)) []
+handed (Lift flat out) = cond (atLeast 1 out) (cond (atLeast 177 flat) (insnOf flat ∷ []) []) []
+handed (LiftRecord input at out) = cond (atLeast 3 out) (recorded (takenAt input at .outcome) (takenAt input at .insn)) []
 
 unfoldable pub allHanded : List Call → List Instruction
 allHanded [] = []
@@ -102,7 +104,7 @@ module _ (w : Words) (i : Instruction) (e : all smallIs (take 13 (w .state)) ≡
       left s = record { st = s; nodes = wrote (w .nodes) (x .ns); statements = wrote (w .statements) (x .ss) }
 
       way : (t : Bool) → leb (x .val) 2 ≡ t
-          → Holds (wordsOf (record { answer = x .val; state = keptIf t (x .st) (w .state); nodes = wrote (w .nodes) (x .ns); statements = wrote (w .statements) (x .ss) })) (left (x .st))
+          → Holds (wordsOf (record { answer = x .val; detail = detailOf (x .val) i; state = keptIf t (x .st) (w .state); nodes = wrote (w .nodes) (x .ns); statements = wrote (w .statements) (x .ss) })) (left (x .st))
       way true p =
           record {
             held = ap left (state-back (w .state) (x .st) l b);
@@ -130,21 +132,25 @@ module _ (nodes statements : List ℕ) where
   nothing-on w is r k = rw append-nil (same-holds r k)
 
   call-on : (w : Words) (is : List Instruction) (c : Call) → Holds w (run is) → Holds (made w c) (run (is ++ handed c))
-  unfolding made promised handed liftedOf steppedOf stepOf
-  call-on w is (Lift flat) k = way (atLeast 177 flat) (atLeast 13 (w .state)) (le-leb 13 (length (w .state)) (k .long))
+  unfolding made promised handed calledOf liftedOf steppedOf stepOf
+  call-on w is (Lift flat out) k = way (atLeast 1 out) (atLeast 177 flat) (atLeast 13 (w .state)) (le-leb 13 (length (w .state)) (k .long))
     where
-      way : (t x : Bool) → x ≡ true
-          → Holds (wordsOf (cond (t && x) (liftedIn (insnOf flat) (w .state) (w .nodes) (w .statements)) (unchanged 10 (w .state) (w .nodes) (w .statements)))) (run (is ++ cond t (insnOf flat ∷ []) []))
-      way true true e = lifted-on w is (insnOf flat) k
-      way true false e = absurd (false≢true e)
-      way false x e = nothing-on w is 10 k
-  call-on w is (LiftRecord input at out) k = way (atLeast 2 out) (atLeast 13 (w .state)) (takenAt input at .outcome) (le-leb 13 (length (w .state)) (k .long))
+      left : Lifted
+      left = unchanged 10 (w .state) (w .nodes) (w .statements)
+
+      way : (u t x : Bool) → x ≡ true
+          → Holds (wordsOf (cond u (cond (t && x) (liftedIn (insnOf flat) (w .state) (w .nodes) (w .statements)) left) left)) (run (is ++ cond u (cond t (insnOf flat ∷ []) []) []))
+      way true true true e = lifted-on w is (insnOf flat) k
+      way u true false e = absurd (false≢true e)
+      way true false x e = nothing-on w is 10 k
+      way false t x e = nothing-on w is 10 k
+  call-on w is (LiftRecord input at out) k = way (atLeast 3 out) (atLeast 13 (w .state)) (takenAt input at .outcome) (le-leb 13 (length (w .state)) (k .long))
     where
       i : Instruction
       i = takenAt input at .insn
 
       way : (t x : Bool) (o : Outcome) → x ≡ true
-          → Holds (wordsOf (cond t (cond x (stepOf o i at (w .state) (w .nodes) (w .statements)) (record { lifted = unchanged 10 (w .state) (w .nodes) (w .statements); told = 0 ∷ 0 ∷ [] }) .lifted) (unchanged 10 (w .state) (w .nodes) (w .statements))))
+          → Holds (wordsOf (cond t (cond x (stepOf o i at (w .state) (w .nodes) (w .statements)) (record { lifted = unchanged 10 (w .state) (w .nodes) (w .statements); told = 0 ∷ 0 ∷ 0 ∷ [] }) .lifted) (unchanged 10 (w .state) (w .nodes) (w .statements))))
           (run (is ++ cond t (recorded o i) []))
       way true true (Record c) e = lifted-on w is i k
       way true true (End c) e = nothing-on w is 0 k

@@ -17,13 +17,13 @@ same-words p q r = λ i. words (p i) (q i) (r i)
 -- `lifter::lift`: one call of a run
 pub lift-is : (κ : _) (a : _) (r : _) (e : _) → Rattle.lifter.proofs.lift.Reads.Post κ a r e
     → called (record { st = a .1 .1 .0; nodes = now (a .0); statements = now (a .1 .0) }) (a .1 .1 .1 .0) ≡ record { st = r .state; nodes = now (e .0); statements = now (e .1 .0) }
-lift-is κ a r e p = call-is _ _ _ _ _ _ _ _ p
+lift-is κ a r e p = call-is _ _ _ _ _ _ _ _ (p .does)
 
 -- `x87_lift` and `x87_lift_record`: one call of Rust's
 pub x87-lift-is : (κ : _) (a : _) (r : _) (e : _) → Rattle.export.proofs.x87_lift.Reads.Post κ a r e
-    → made (words (now (a .1 .0)) (now (a .1 .1 .0)) (now (a .1 .1 .1 .0))) (Lift (now (a .0))) ≡ words (now (e .1 .0)) (now (e .1 .1 .0)) (now (e .1 .1 .1 .0))
+    → made (words (now (a .1 .0)) (now (a .1 .1 .0)) (now (a .1 .1 .1 .0))) (Lift (now (a .0)) (now (a .1 .1 .1 .1 .0))) ≡ words (now (e .1 .0)) (now (e .1 .1 .0)) (now (e .1 .1 .1 .0))
 unfolding made promised
-x87-lift-is κ a r e p = same-words (sym (p .state)) (sym (p .nodes)) (sym (p .statements))
+x87-lift-is κ a r e p = let q = p .lifts in same-words (sym (q .state)) (sym (q .nodes)) (sym (q .statements))
 
 pub x87-lift-record-is : (κ : _) (a : _) (r : _) (e : _) → Rattle.export.proofs.x87_lift_record.Reads.Post κ a r e
     → made (words (now (a .1 .1 .0)) (now (a .1 .1 .1 .0)) (now (a .1 .1 .1 .1 .0))) (LiftRecord (now (a .0)) (a .1 .0) (now (a .1 .1 .1 .1 .1 .0)))

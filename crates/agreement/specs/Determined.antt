@@ -21,6 +21,10 @@ use Rattle.lists.specs.declared.State.{State}
 use Rattle.lists.specs.declared.Step.{Step}
 use Rattle.lists.specs.declared.Pushed.{Pushed}
 use Rattle.memory.specs.declared.Done.{Done}
+use Rattle.forms.specs.declared.Instruction.{Instruction}
+use Rattle.details.specs.Why.{detailOf}
+use Rattle.lifter.specs.Lift as lifter
+use Rattle.lifter.specs.declared.Lifted as lifter-declared
 use Rattle.listing.specs.Run.{Ran, Runs}
 use Rattle.listing.specs.Listing.{Lists, numberOf}
 use Rattle.listing.specs.declared.Stop.{Stop}
@@ -80,6 +84,9 @@ pushed-same p q = λ i. record { state = p i; overflow = q i }
 done-same : {r s : Done} → r .state ≡ s .state → r .answer ≡ s .answer → r ≡ s
 done-same p q = λ i. record { state = p i; answer = q i }
 
+lifted-same : {r s : lifter-declared.Lifted} → r .state ≡ s .state → r .answer ≡ s .answer → r .detail ≡ s .detail → r ≡ s
+lifted-same p q w = λ i. record { state = p i; answer = q i; detail = w i }
+
 reader-same : {r s : Reader} → r .input ≡ s .input → r .at ≡ s .at → r ≡ s
 reader-same p q = λ i. record { input = p i; at = q i }
 
@@ -109,6 +116,13 @@ module _ {b : Built} {old l m old₂ l₂ m₂ : List ℕ} where
   does-step : (r s : Step) → Does b (r .state) (r .at) old l old₂ l₂ → Does b (s .state) (s .at) old m old₂ m₂ → (r ≡ s) × (l ≡ m) × (l₂ ≡ m₂)
   does-step r s p q = (step-same (p .state ∙ sym (q .state)) (p .number ∙ sym (q .number)), cc, cc)
 
+  -- .. and the detail, which follows from the answer
+  lift : {i : Instruction} (r s : lifter-declared.Lifted) → lifter.Lifts b i (r .state) (r .answer) (r .detail) old l old₂ l₂ → lifter.Lifts b i (s .state) (s .answer) (s .detail) old m old₂ m₂
+      → (r ≡ s) × (l ≡ m) × (l₂ ≡ m₂)
+  lift {i = i} r s p q =
+      let a = p .does .number ∙ sym (q .does .number) in
+      (lifted-same (p .does .state ∙ sym (q .does .state)) a (p .detail-is ∙ ap (λ (n : ℕ). detailOf n i) a ∙ sym (q .detail-is)), p .does .list ∙ sym (q .does .list), p .does .said ∙ sym (q .does .said))
+
 module _ {r s : ℕ} where
   tells : {k : ℕ} {x : Said} {out l m : List ℕ} → Tells k x out r l → Tells k x out s m → (r ≡ s) × (l ≡ m)
   tells p q = (p .answer ∙ sym (q .answer), p .told ∙ sym (q .told))
@@ -119,7 +133,7 @@ module _ {r s : ℕ} where
   lifts : {x : Lifted} {l m l₂ m₂ l₃ m₃ : List ℕ} → Lifts x r l l₂ l₃ → Lifts x s m m₂ m₃ → (r ≡ s) × (l ≡ m) × (l₂ ≡ m₂) × (l₃ ≡ m₃)
   lifts p q = (cc, cc, cc, cc)
 
-  steps : {x : Stepped} {state nodes statements out l m l₂ m₂ l₃ m₃ l₄ m₄ : List ℕ} → Steps x state nodes statements out r l l₂ l₃ l₄ → Steps x state nodes statements out s m m₂ m₃ m₄
+  steps : {k : ℕ} {x : Stepped} {state nodes statements out l m l₂ m₂ l₃ m₃ l₄ m₄ : List ℕ} → Steps k x state nodes statements out r l l₂ l₃ l₄ → Steps k x state nodes statements out s m m₂ m₃ m₄
       → (r ≡ s) × (l ≡ m) × (l₂ ≡ m₂) × (l₃ ≡ m₃) × (l₄ ≡ m₄)
   steps p q = let w = lifts (p .lifts) (q .lifts) in (w .0, w .1, w .2, w .3, tells (p .told) (q .told) .1)
 
@@ -483,7 +497,7 @@ moves·push-memory κ a r s x y = does r s
 -- lifter
 
 pub lifter·lift : Determined₂ Rattle.lifter.proofs.lift.Reads.Post (λ κ x. now (x .0)) (λ κ x. now (x .1 .0))
-lifter·lift κ a r s x y = does r s
+lifter·lift κ a r s x y = lift r s
 
 -- image
 
@@ -561,14 +575,17 @@ answers·evaluated-node κ a r s x y = one
 pub export·x87-classify : Determined₁ Rattle.export.proofs.x87_classify.Reads.Post (λ κ x. now (x .1 .0))
 export·x87-classify κ a r s x y = tells
 
+pub export·x87-why : Determined₁ Rattle.export.proofs.x87_why.Reads.Post (λ κ x. now (x .1 .0))
+export·x87-why κ a r s x y = tells
+
 pub export·x87-effect : Determined₁ Rattle.export.proofs.x87_effect.Reads.Post (λ κ x. now (x .1 .0))
 export·x87-effect κ a r s x y = tells
 
 pub export·x87-read-record : Determined₂ Rattle.export.proofs.x87_read_record.Reads.Post (λ κ x. now (x .1 .1 .0)) (λ κ x. now (x .1 .1 .1 .0))
 export·x87-read-record κ a r s x y = reads
 
-pub export·x87-lift : Determined₃ Rattle.export.proofs.x87_lift.Reads.Post (λ κ x. now (x .1 .0)) (λ κ x. now (x .1 .1 .0)) (λ κ x. now (x .1 .1 .1 .0))
-export·x87-lift κ a r s x y = lifts
+pub export·x87-lift : Determined₄ Rattle.export.proofs.x87_lift.Reads.Post (λ κ x. now (x .1 .0)) (λ κ x. now (x .1 .1 .0)) (λ κ x. now (x .1 .1 .1 .0)) (λ κ x. now (x .1 .1 .1 .1 .0))
+export·x87-lift κ a r s x y = steps
 
 pub export·x87-lift-record : Determined₄ Rattle.export.proofs.x87_lift_record.Reads.Post (λ κ x. now (x .1 .1 .0)) (λ κ x. now (x .1 .1 .1 .0)) (λ κ x. now (x .1 .1 .1 .1 .0)) (λ κ x. now (x .1 .1 .1 .1 .1 .0))
 export·x87-lift-record κ a r s x y = steps

@@ -12,6 +12,7 @@ use Rattle.lists.specs.Steps.{Built, gives}
 use Rattle.lists.proofs.Adds.{Adds}
 use Rattle.forms.specs.declared.Instruction.{Instruction}
 use Rattle.forms.specs.Classify.{classifyOf}
+use Rattle.details.specs.Why.{whyOf}
 use Rattle.memory.specs.Site.{siteOf}
 use Rattle.lifter.proofs.Adds.{lowered-adds}
 use Rattle.agreement.specs.Runs.{Held, stepped, called, ran}
@@ -91,7 +92,7 @@ call-follows {Γ₀} {m₀} {h} i f =
     by-call (Followed Γ₀ m₀) h i (λ r. record { sorts = f .sorts; tracks = gives-tracks r (f .tracks) }) (λ w.
     record {
       sorts = grown (f .sorts) (loweredAt h i .ns);
-      tracks = step-tracks (loweredAt h i) (f .tracks) (lowered-fine i (h .st)) (lowered-adds (h .st) (classifyOf i) (siteOf i)) (w .room) (w .room′);
+      tracks = step-tracks (loweredAt h i) (f .tracks) (lowered-fine i (h .st)) (lowered-adds (h .st) (classifyOf i) (whyOf i) (siteOf i)) (w .room) (w .room′);
     })
 
 -- Any number of calls

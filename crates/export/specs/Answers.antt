@@ -7,6 +7,7 @@ use lib.ListN.{replicate}
 use Rattle.forms.specs.declared.Instruction.{Instruction}
 use Rattle.forms.specs.Classify.{classifyOf}
 use Rattle.forms.specs.Effects.{effectOf}
+use Rattle.details.specs.Why.{detailOf}
 use Rattle.forms.specs.Numbers.{bit, numberOf, fieldsOf, effectNumber, effectFields}
 use Rattle.records.specs.Numbers as records
 use Rattle.records.specs.declared.Taken.{Taken}
@@ -33,6 +34,13 @@ classified flat =
     (record { number = numberOf (classifyOf (insnOf flat)); words = fieldsOf (classifyOf (insnOf flat)) })
     (tooShort 8)
 
+-- the number alone, and the detail beside it
+unfoldable pub reasoned : List ℕ → Said
+reasoned flat =
+    cond (atLeast 177 flat)
+    (record { number = numberOf (classifyOf (insnOf flat)); words = detailOf (numberOf (classifyOf (insnOf flat))) (insnOf flat) ∷ [] })
+    (tooShort 1)
+
 unfoldable pub affected : List ℕ → Said
 affected flat =
     cond (atLeast 177 flat)
@@ -41,6 +49,9 @@ affected flat =
 
 abbrev pub Classifies : List ℕ → List ℕ → ℕ → List ℕ → Type 0
 Classifies flat out = Tells 8 (classified flat) out
+
+abbrev pub Reasons : List ℕ → List ℕ → ℕ → List ℕ → Type 0
+Reasons flat out = Tells 1 (reasoned flat) out
 
 abbrev pub Affects : List ℕ → List ℕ → ℕ → List ℕ → Type 0
 Affects flat out = Tells 7 (affected flat) out

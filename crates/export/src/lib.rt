@@ -9,9 +9,9 @@ ghost use lib.ListN.{length};
 ghost use Rattle.records.specs.Format.{takenAt};
 ghost use lib.Dec.{leb};
 ghost use Rattle.export.specs.Flat.{laid};
-ghost use Rattle.export.specs.Lifts.{Lifts, liftedIn, liftedOf, keptIf};
-ghost use Rattle.export.specs.Steps.{Steps, steppedOf, toldOf};
-ghost use Rattle.export.specs.Answers.{Classifies, Affects, ReadsRecord, wroteIf};
+ghost use Rattle.export.specs.Lifts.{Lifts, liftedIn, keptIf};
+ghost use Rattle.export.specs.Steps.{Steps, calledOf, steppedOf, toldOf};
+ghost use Rattle.export.specs.Answers.{Classifies, Reasons, Affects, ReadsRecord, wroteIf};
 use forms::Instruction;
 use lists::State;
 
@@ -50,6 +50,24 @@ pub extern "C" fn x87_classify(flat: &[u8], out: &mut [u64]) -> u32
         }
         let none = [0u64; 8];
         lay(out, &none);
+        return 10;
+    }
+    10
+}
+
+// Tells why the instruction that stands in the first 177 bytes is declined; the answer is that of `x87_classify`.
+#[no_mangle]
+pub extern "C" fn x87_why(flat: &[u8], out: &mut [u64]) -> u32
+    ensures { λ r. ⌜ Reasons (now (flat .entry)) (now (out .entry)) r (now (out .exit)) ⌝ }
+{
+    if 1 <= out.len() {
+        if 177 <= flat.len() {
+            let insn = flat::read(flat);
+            let answer = answers::number(forms::classify(insn));
+            out[0] = details::detail(answer, insn) as u64;
+            return answer;
+        }
+        out[0] = 0;
         return 10;
     }
     10
@@ -135,51 +153,75 @@ fn keep(state: &mut [u64], s: State, answer: u32)
     }
 }
 
+// An answer's number, and its detail.
+struct Answer {
+    number: u32,
+    detail: u32,
+}
+
 // Lifts an instruction over a state of 13 words and two lists of rows of four.
-fn lift_in(insn: Instruction, state: &mut [u64], nodes: &mut [u64], statements: &mut [u64]) -> u32
+fn lift_in(
+    insn: Instruction,
+    state: &mut [u64],
+    nodes: &mut [u64],
+    statements: &mut [u64],
+) -> Answer
     requires { ⌜ 13 ≤ length (now state) ⌝ }
-    ensures { λ r. ⌜ Lifts (liftedIn insn (now (state .entry)) (now (nodes .entry)) (now (statements .entry))) r (now (state .exit)) (now (nodes .exit)) (now (statements .exit)) ⌝ }
+    ensures { λ r. ⌜ Lifts (liftedIn insn (now (state .entry)) (now (nodes .entry)) (now (statements .entry))) (r .number) (now (state .exit)) (now (nodes .exit)) (now (statements .exit)) × (r .detail ≡ liftedIn insn (now (state .entry)) (now (nodes .entry)) (now (statements .entry)) .detail) ⌝ }
 {
     if state::small(state) {
         let s = state::read(state);
         let done = lifter::lift(nodes, statements, s, insn);
         let next = done.state;
-        let answer = done.answer;
-        keep(state, next, answer);
-        return answer;
+        let number = done.answer;
+        keep(state, next, number);
+        return Answer {
+            number,
+            detail: done.detail,
+        };
     }
-    5
+    Answer {
+        number: 5,
+        detail: 0,
+    }
 }
 
-// Lifts the instruction that stands in the first 177 bytes.
+// Lifts the instruction that stands in the first 177 bytes, and tells the detail of a decline.
 #[no_mangle]
 pub extern "C" fn x87_lift(
     flat: &[u8],
     state: &mut [u64],
     nodes: &mut [u64],
     statements: &mut [u64],
+    out: &mut [u64],
 ) -> u32
-    ensures { λ r. ⌜ Lifts (liftedOf (now (flat .entry)) (now (state .entry)) (now (nodes .entry)) (now (statements .entry))) r (now (state .exit)) (now (nodes .exit)) (now (statements .exit)) ⌝ }
+    ensures { λ r. ⌜ Steps 1 (calledOf (now (flat .entry)) (now (state .entry)) (now (nodes .entry)) (now (statements .entry))) (now (state .entry)) (now (nodes .entry)) (now (statements .entry)) (now (out .entry)) r (now (state .exit)) (now (nodes .exit)) (now (statements .exit)) (now (out .exit)) ⌝ }
 {
-    if 177 <= flat.len() {
-        if 13 <= state.len() {
-            let insn = flat::read(flat);
-            return lift_in(insn, state, nodes, statements);
+    if 1 <= out.len() {
+        if 177 <= flat.len() {
+            if 13 <= state.len() {
+                let insn = flat::read(flat);
+                let answer = lift_in(insn, state, nodes, statements);
+                out[0] = answer.detail as u64;
+                return answer.number;
+            }
         }
+        out[0] = 0;
+        return 10;
     }
     10
 }
 
-// Tells the two words beside a record's answer.
-fn tell(out: &mut [u64], answer: u32, next: usize, at: usize)
-    requires { ⌜ 2 ≤ length (now out) ⌝ }
-    ensures { λ _. ⌜ now (out .exit) ≡ laid (now (out .entry)) 0 (toldOf answer next at) ⌝ }
+// Tells the three words beside a record's answer.
+fn tell(out: &mut [u64], answer: Answer, next: usize, at: usize)
+    requires { ⌜ 3 ≤ length (now out) ⌝ }
+    ensures { λ _. ⌜ now (out .exit) ≡ laid (now (out .entry)) 0 (toldOf (answer .number) (answer .detail) next at) ⌝ }
 {
-    if answer <= 2 {
-        let w = [next as u64, 1];
+    if answer.number <= 2 {
+        let w = [next as u64, 1, answer.detail as u64];
         lay(out, &w);
     } else {
-        let w = [at as u64, 0];
+        let w = [at as u64, 0, 0];
         lay(out, &w);
     }
 }
@@ -193,8 +235,8 @@ fn lift_record_in(
     statements: &mut [u64],
     out: &mut [u64],
 ) -> u32
-    requires { ⌜ (13 ≤ length (now state)) × (2 ≤ length (now out)) ⌝ }
-    ensures { λ r. ⌜ Steps (steppedOf (takenAt (now (input .entry)) at) at (now (state .entry)) (now (nodes .entry)) (now (statements .entry))) (now (state .entry)) (now (nodes .entry)) (now (statements .entry)) (now (out .entry)) r (now (state .exit)) (now (nodes .exit)) (now (statements .exit)) (now (out .exit)) ⌝ }
+    requires { ⌜ (13 ≤ length (now state)) × (3 ≤ length (now out)) ⌝ }
+    ensures { λ r. ⌜ Steps 3 (steppedOf (takenAt (now (input .entry)) at) at (now (state .entry)) (now (nodes .entry)) (now (statements .entry))) (now (state .entry)) (now (nodes .entry)) (now (statements .entry)) (now (out .entry)) r (now (state .exit)) (now (nodes .exit)) (now (statements .exit)) (now (out .exit)) ⌝ }
 {
     let t = reader::record_at(input, at);
     let o = t.outcome;
@@ -203,9 +245,9 @@ fn lift_record_in(
     if answers::is_record(o) {
         let answer = lift_in(insn, state, nodes, statements);
         tell(out, answer, next, at);
-        return answer;
+        return answer.number;
     }
-    let w = [next as u64, 0];
+    let w = [next as u64, 0, 0];
     lay(out, &w);
     answers::outcome_number(o)
 }
@@ -220,13 +262,13 @@ pub extern "C" fn x87_lift_record(
     statements: &mut [u64],
     out: &mut [u64],
 ) -> u32
-    ensures { λ r. ⌜ Steps (steppedOf (takenAt (now (input .entry)) at) at (now (state .entry)) (now (nodes .entry)) (now (statements .entry))) (now (state .entry)) (now (nodes .entry)) (now (statements .entry)) (now (out .entry)) r (now (state .exit)) (now (nodes .exit)) (now (statements .exit)) (now (out .exit)) ⌝ }
+    ensures { λ r. ⌜ Steps 3 (steppedOf (takenAt (now (input .entry)) at) at (now (state .entry)) (now (nodes .entry)) (now (statements .entry))) (now (state .entry)) (now (nodes .entry)) (now (statements .entry)) (now (out .entry)) r (now (state .exit)) (now (nodes .exit)) (now (statements .exit)) (now (out .exit)) ⌝ }
 {
-    if 2 <= out.len() {
+    if 3 <= out.len() {
         if 13 <= state.len() {
             return lift_record_in(input, at, state, nodes, statements, out);
         }
-        let none = [0u64; 2];
+        let none = [0u64; 3];
         lay(out, &none);
         return 10;
     }

@@ -18,7 +18,7 @@ ghost use Rattle.forms.specs.Operands.{slotOf, takesOf, widthOf, operand
 ghost use Rattle.forms.specs.Families.{plainOf, exchangeOf, pushSlot, loadAt, loadOf, storeSlot, storeAt, storeOf, compareMemory, statusAt, statusCompareOf, flagAt, flagCompareOf, conditionalOf, storeStatusAt, storeStatusOf, integerWidth, integerArithOf, integerCompareOf, arithSlots, arithMemory, arithOne, arithTwo, arithOf, formOf};
 
 // The place that an operand names: a register's text.
-fn slot_index(o: Operand) -> Place
+pub fn slot_index(o: Operand) -> Place
     ensures { λ r. ⌜ r ≡ slotOf o ⌝ }
 {
     let t = o.text;
@@ -29,7 +29,7 @@ fn slot_index(o: Operand) -> Place
 }
 
 // Whether a table of widths has a width.
-fn takes(widths: Widths, width: u16) -> bool
+pub fn takes(widths: Widths, width: u16) -> bool
     ensures { λ r. ⌜ r ≡ takesOf widths width ⌝ }
 {
     match widths {
@@ -259,7 +259,7 @@ fn classify_conditional_move(ops: [Operand; 3], count: usize, condition: X87Cond
 }
 
 // Whether the first `n` bytes name the register `ax`.
-fn ax_in(b: [u8; 32], n: usize) -> bool
+pub fn ax_in(b: [u8; 32], n: usize) -> bool
     ensures { λ r. ⌜ r ≡ axOf (take n b) ⌝ }
 {
     if n <= 32 {

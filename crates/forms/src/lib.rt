@@ -1,6 +1,6 @@
 // Instructions with decoded operands, what each does to the x87 stack, and what it touches besides.
-mod families;
-mod names;
+pub mod families;
+pub mod names;
 
 use texts::Text;
 ghost use mathlib.Core.Path.{_≡_};

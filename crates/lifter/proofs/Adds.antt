@@ -1,4 +1,5 @@
 -- How many nodes and statements an instruction adds: at most 46 and 5
+use Prim.Native.Nat.{ℕ}
 use native.Mathlib.Omega.{arith}
 use Rattle.lists.specs.declared.State.{State}
 use Rattle.lists.proofs.Adds.{Adds, same, more, gives-adds, exchange-adds}
@@ -29,9 +30,9 @@ module _ (s : State) where
   apply-adds (Exchange index) site = more (exchange-adds s index) (omega arith) (omega arith)
   apply-adds (Unary op) site = more (x87-unary-adds s op) (omega arith) (omega arith)
 
-  pub lowered-adds : (classified : Classified) (site : Site) → Adds s 46 5 (loweredOf s classified site)
+  pub lowered-adds : (classified : Classified) (detail : ℕ) (site : Site) → Adds s 46 5 (loweredOf s classified detail site)
   unfolding loweredOf
-  lowered-adds (Modelled form) site = apply-adds form site
-  lowered-adds Declined site = more (decline-adds s 1 (site .address)) (omega arith) (omega arith)
-  lowered-adds BadText site = more (gives-adds s s 3 (same s)) (omega arith) (omega arith)
-  lowered-adds BadOperands site = more (gives-adds s s 4 (same s)) (omega arith) (omega arith)
+  lowered-adds (Modelled form) detail site = apply-adds form site
+  lowered-adds Declined detail site = more (decline-adds s 1 (site .address) detail) (omega arith) (omega arith)
+  lowered-adds BadText detail site = more (gives-adds s s 3 (same s)) (omega arith) (omega arith)
+  lowered-adds BadOperands detail site = more (gives-adds s s 4 (same s)) (omega arith) (omega arith)

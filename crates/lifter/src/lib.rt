@@ -5,7 +5,9 @@ ghost use lib.Dec.{leb};
 ghost use Rattle.lists.specs.Rows.{roomOf};
 ghost use Rattle.lists.specs.Steps.{Does};
 ghost use Rattle.lifter.specs.Apply.{applyX87Of};
-ghost use Rattle.lifter.specs.Lift.{loweredOf, fittingOf, liftOf};
+ghost use Rattle.details.specs.Why.{whyOf};
+ghost use Rattle.lifter.specs.Lift.{loweredOf, fittingOf, liftOf, Lifts};
+ghost use Rattle.lifter.specs.Inside.{reasonOf, besideOf};
 use forms::Classified;
 use forms::Form;
 use forms::Instruction;
@@ -17,6 +19,13 @@ use memory::Site;
 const MOST_NODES: u32 = 46;
 
 const MOST_STATEMENTS: u32 = 5;
+
+// The state after an instruction, the answer's number, and beside answer 1 the detail of the decline.
+pub struct Lifted {
+    pub state: State,
+    pub answer: u32,
+    pub detail: u32,
+}
 
 fn apply_x87(ns: &mut [u64], ss: &mut [u64], s: State, form: Form, site: Site) -> Done
     ensures { λ r. ⌜ Does (applyX87Of s form site) (r .state) (r .answer) (now (ns .entry)) (now (ns .exit)) (now (ss .entry)) (now (ss .exit)) ⌝ }
@@ -59,13 +68,14 @@ fn lower(
     statements: &mut [u64],
     s: State,
     classified: Classified,
+    detail: u32,
     site: Site,
 ) -> Done
-    ensures { λ r. ⌜ Does (loweredOf s classified site) (r .state) (r .answer) (now (nodes .entry)) (now (nodes .exit)) (now (statements .entry)) (now (statements .exit)) ⌝ }
+    ensures { λ r. ⌜ Does (loweredOf s classified detail site) (r .state) (r .answer) (now (nodes .entry)) (now (nodes .exit)) (now (statements .entry)) (now (statements .exit)) ⌝ }
 {
     match classified {
         Classified::Modelled(form) => apply_x87(nodes, statements, s, form, site),
-        Classified::Declined => moves::decline_x87(statements, s, 1, site.address),
+        Classified::Declined => moves::decline_x87(statements, s, 1, site.address, detail),
         Classified::BadText => Done {
             state: s,
             answer: 3,
@@ -83,13 +93,14 @@ fn fit_tight(
     statements: &mut [u64],
     s: State,
     classified: Classified,
+    detail: u32,
     site: Site,
 ) -> Done
-    ensures { λ r. ⌜ Does (fittingOf (loweredOf s classified site) s (now (nodes .entry)) (now (statements .entry))) (r .state) (r .answer) (now (nodes .entry)) (now (nodes .exit)) (now (statements .entry)) (now (statements .exit)) ⌝ }
+    ensures { λ r. ⌜ Does (fittingOf (loweredOf s classified detail site) s (now (nodes .entry)) (now (statements .entry))) (r .state) (r .answer) (now (nodes .entry)) (now (nodes .exit)) (now (statements .entry)) (now (statements .exit)) ⌝ }
 {
     let mut a = [0u64; 1];
     let mut b = [0u64; 1];
-    let d = lower(&mut a, &mut b, s, classified, site).state;
+    let d = lower(&mut a, &mut b, s, classified, detail, site).state;
     if lists::room(nodes.len()) < d.nodes {
         return Done {
             state: s,
@@ -102,7 +113,7 @@ fn fit_tight(
             answer: 7,
         };
     }
-    lower(nodes, statements, s, classified, site)
+    lower(nodes, statements, s, classified, detail, site)
 }
 
 // Whether so many rows more have room.
@@ -118,28 +129,59 @@ fn fit(
     statements: &mut [u64],
     s: State,
     classified: Classified,
+    detail: u32,
     site: Site,
 ) -> Done
-    ensures { λ r. ⌜ Does (fittingOf (loweredOf s classified site) s (now (nodes .entry)) (now (statements .entry))) (r .state) (r .answer) (now (nodes .entry)) (now (nodes .exit)) (now (statements .entry)) (now (statements .exit)) ⌝ }
+    ensures { λ r. ⌜ Does (fittingOf (loweredOf s classified detail site) s (now (nodes .entry)) (now (statements .entry))) (r .state) (r .answer) (now (nodes .entry)) (now (nodes .exit)) (now (statements .entry)) (now (statements .exit)) ⌝ }
 {
     if ample(nodes.len(), s.nodes, MOST_NODES) {
         if ample(statements.len(), s.statements, MOST_STATEMENTS) {
-            return lower(nodes, statements, s, classified, site);
+            return lower(nodes, statements, s, classified, detail, site);
         }
     }
-    fit_tight(nodes, statements, s, classified, site)
+    fit_tight(nodes, statements, s, classified, detail, site)
+}
+
+// The detail of an instruction that is declined: it is worked out for no other.
+fn reason(classified: Classified, insn: Instruction) -> u32
+    ensures { λ r. ⌜ r ≡ reasonOf classified (whyOf insn) ⌝ }
+{
+    match classified {
+        Classified::Modelled(_) => 0,
+        Classified::Declined => details::why(insn),
+        Classified::BadText => 0,
+        Classified::BadOperands => 0,
+    }
+}
+
+// The detail stands beside answer 1 alone.
+fn beside(answer: u32, detail: u32) -> u32
+    ensures { λ r. ⌜ r ≡ besideOf answer detail ⌝ }
+{
+    if answer == 1 {
+        return detail;
+    }
+    0
 }
 
 // Lifts one instruction: 0 modelled, 1 and 2 declined, 3 to 7 refused with nothing changed.
-pub fn lift(nodes: &mut [u64], statements: &mut [u64], s: State, insn: Instruction) -> Done
-    ensures { λ r. ⌜ Does (liftOf s insn (now (nodes .entry)) (now (statements .entry))) (r .state) (r .answer) (now (nodes .entry)) (now (nodes .exit)) (now (statements .entry)) (now (statements .exit)) ⌝ }
+pub fn lift(nodes: &mut [u64], statements: &mut [u64], s: State, insn: Instruction) -> Lifted
+    ensures { λ r. ⌜ Lifts (liftOf s insn (now (nodes .entry)) (now (statements .entry))) insn (r .state) (r .answer) (r .detail) (now (nodes .entry)) (now (nodes .exit)) (now (statements .entry)) (now (statements .exit)) ⌝ }
 {
     if lists::valid(s, lists::room(nodes.len()), lists::room(statements.len())) {
         let classified = forms::classify(insn);
-        return fit(nodes, statements, s, classified, memory::site_of(insn));
+        let detail = reason(classified, insn);
+        let done = fit(nodes, statements, s, classified, detail, memory::site_of(insn));
+        let state = done.state;
+        return Lifted {
+            state,
+            answer: done.answer,
+            detail: beside(done.answer, detail),
+        };
     }
-    Done {
+    Lifted {
         state: s,
         answer: 5,
+        detail: 0,
     }
 }

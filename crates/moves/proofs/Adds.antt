@@ -35,17 +35,17 @@ module _ (s : State) where
   unfolding orderedOf
   ordered-adds op a b reversed = either reversed (extended-arith-adds s op b a) (extended-arith-adds s op a b)
 
-  pub decline-adds : (why address : ℕ) → Adds s 0 1 (declineX87Of s why address)
+  pub decline-adds : (why address detail : ℕ) → Adds s 0 1 (declineX87Of s why address detail)
   unfolding declineX87Of
-  decline-adds why address =
-      from-alike (havoc-counts s) (next _ (statement-adds (havocOf s) 6 why address 0) (λ t _. gives-adds t t why (same t)))
+  decline-adds why address detail =
+      from-alike (havoc-counts s) (next _ (statement-adds (havocOf s) 6 why address detail) (λ t _. gives-adds t t why (same t)))
 
 module _ (s : State) where
   land-adds : (value address : ℕ) → Adds s 0 1 (landOf s value address)
   unfolding landOf
   land-adds value address =
       either (overflows s)
-      (from-alike (push-counts s value) (decline-adds (pushOf s value) 2 address))
+      (from-alike (push-counts s value) (decline-adds (pushOf s value) 2 address 0))
       (more (gives-adds s (pushOf s value) 0 (push-counts s value)) (omega arith) (omega arith))
 
 module _ (s : State) (site : Site) where

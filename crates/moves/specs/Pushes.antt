@@ -10,13 +10,13 @@ use Rattle.exprs.specs.Nodes.{wideKonstOf}
 use Rattle.memory.specs.Memory.{x87MemoryReadOf}
 use Rattle.memory.specs.declared.Site.{Site}
 
--- A decline: the stack is forgotten, and statement 6 has the answer, 1 or 2, and the instruction's address
-unfoldable pub declineX87Of : State → ℕ → ℕ → Built
-declineX87Of s why address = statementOf (havocOf s) 6 why address 0 ▸ λ s _. gives s why
+-- A decline: the stack is forgotten, and statement 6 has the answer, 1 or 2, the instruction's address and the detail
+unfoldable pub declineX87Of : State → ℕ → ℕ → ℕ → Built
+declineX87Of s why address detail = statementOf (havocOf s) 6 why address detail ▸ λ s _. gives s why
 
--- A push that may overflow, as the last step
+-- A push that may overflow, as the last step; an overflow has no detail
 unfoldable pub landOf : State → ℕ → ℕ → Built
-landOf s value address = cond (overflows s) (declineX87Of (pushOf s value) 2 address) (gives (pushOf s value) 0)
+landOf s value address = cond (overflows s) (declineX87Of (pushOf s value) 2 address 0) (gives (pushOf s value) 0)
 
 unfoldable pub pushConstOf : State → Site → ℕ → ℕ → Built
 pushConstOf s site low high = wideKonstOf s low high 79 ▸ λ s value. landOf s value (site .address)

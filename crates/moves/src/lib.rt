@@ -186,12 +186,18 @@ pub fn exchange(nodes: &mut [u64], s: State, index: u32) -> Done
     }
 }
 
-// A decline forgets the stack and says why, 1 or 2, and where.
-pub fn decline_x87(statements: &mut [u64], s: State, why: u32, address: u64) -> Done
-    ensures { λ r. ⌜ Told (declineX87Of s why address) (r .state) (r .answer) (now (statements .entry)) (now (statements .exit)) ⌝ }
+// A decline forgets the stack and says why, 1 or 2, where, and with which detail.
+pub fn decline_x87(
+    statements: &mut [u64],
+    s: State,
+    why: u32,
+    address: u64,
+    detail: u32,
+) -> Done
+    ensures { λ r. ⌜ Told (declineX87Of s why address detail) (r .state) (r .answer) (now (statements .entry)) (now (statements .exit)) ⌝ }
 {
     let t = lists::havoc(s);
-    let u = lists::statement(statements, t, 6, why as u64, address, 0);
+    let u = lists::statement(statements, t, 6, why as u64, address, detail as u64);
     Done {
         state: u,
         answer: why,
@@ -205,7 +211,7 @@ fn land(statements: &mut [u64], s: State, value: u32, address: u64) -> Done
     let p = lists::push(s, value);
     let t = p.state;
     if p.overflow {
-        return decline_x87(statements, t, 2, address);
+        return decline_x87(statements, t, 2, address, 0);
     }
     Done {
         state: t,

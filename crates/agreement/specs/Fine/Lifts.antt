@@ -25,6 +25,7 @@ use Rattle.forms.specs.declared.Instruction.{Instruction}
 use Rattle.forms.specs.declared.Classified.{Classified}
 use Rattle.forms.specs.declared.Classified.the-variants.{Modelled, Declined, BadText, BadOperands}
 use Rattle.forms.specs.Classify.{classifyOf}
+use Rattle.details.specs.Why.{whyOf}
 use Rattle.exprs.specs.Formats.{formatOf, isImage}
 use Rattle.exprs.specs.Slots.{toSlotOf, fromSlotOf}
 use Rattle.memory.specs.Memory.{variableOf, readOperandLoweredOf, imageReadOf, convertedOf, x87MemoryReadOf, sourceOf, writeDstOf, topOf, x87StoreMemoryOf, x87StoreStatusOf}
@@ -69,7 +70,11 @@ module _ {v : ℕ} where
   unfolding demanded Knows Known
   to-ax = record { met = λ Γ h. rw (wide Γ v 16 refl (h .0 (λ z. omega arith))) }
 
-declined : {why address : ℕ} → (eqb why 1 || eqb why 2) ≡ true → Says [] 6 why address 0
+-- Answer 1 with a detail, or answer 2 without
+abbrev detailed : ℕ → ℕ → Bool
+detailed why detail = (eqb why 1 && (leb 21 detail && leb detail 25)) || (eqb why 2 && eqb detail 0)
+
+declined : {why address detail : ℕ} → detailed why detail ≡ true → Says [] 6 why address detail
 unfolding demanded
 declined e = record { met = λ Γ h. rw e }
 
@@ -122,16 +127,16 @@ dropped-if true Γ s p = drop-placed Γ s p
 dropped-if false Γ s p = p
 
 -- A decline
-decline : (s : State) (why address : ℕ) → (eqb why 1 || eqb why 2) ≡ true → Fine s [] 0 (declineX87Of s why address)
+decline : (s : State) (why address detail : ℕ) → detailed why detail ≡ true → Fine s [] 0 (declineX87Of s why address detail)
 unfolding declineX87Of
-decline s why address e =
+decline s why address detail e =
     moved (λ Γ p h. havoc-placed Γ s p) (next _ (statement [] (declined e)) (λ s _. still why [] (λ Γ p h. p)))
 
 -- A push, which may overflow
 land : (s : State) (value address : ℕ) → Fine s (value has 79 ∷ []) 0 (landOf s value address)
 unfolding landOf Known Knows
 land s value address =
-    either (overflows s) (moved pushed (by [] (decline (pushOf s value) 2 address refl)))
+    either (overflows s) (moved pushed (by [] (decline (pushOf s value) 2 address 0 refl)))
     (still 0 (0 ∷ []) pushed)
   where
     pushed : (Γ : List ℕ) → Placed Γ s → Knows Γ (value has 79 ∷ []) → Placed Γ (pushOf s value)
@@ -273,12 +278,12 @@ apply-fine i s (Exchange index) e = exchange s index (leb-true index 7 e)
 apply-fine i s (Unary op) e = unary-fine s op
 
 -- EVERY INSTRUCTION, over lists of any length
-pub lowered-fine : (i : Instruction) (s : State) → Fine s [] 0 (loweredOf s (classifyOf i) (siteOf i))
+pub lowered-fine : (i : Instruction) (s : State) → Fine s [] 0 (loweredOf s (classifyOf i) (whyOf i) (siteOf i))
 unfolding loweredOf
 lowered-fine i s = way (classifyOf i) refl
   where
-    way : (c : Classified) → classifyOf i ≡ c → Fine s [] 0 (loweredOf s c (siteOf i))
+    way : (c : Classified) → classifyOf i ≡ c → Fine s [] 0 (loweredOf s c (whyOf i) (siteOf i))
     way (Modelled form) e = apply-fine i s form (classify-fits i form e)
-    way Declined e = decline s 1 (i .address) refl
+    way Declined e = decline s 1 (i .address) (whyOf i) (detail-listed i e)
     way BadText e = still 3 [] (λ Γ p h. p)
     way BadOperands e = still 4 [] (λ Γ p h. p)

@@ -16,6 +16,7 @@ use Rattle.forms.specs.declared.Instruction.{Instruction}
 use Rattle.forms.specs.declared.Classified.{Classified}
 use Rattle.forms.specs.declared.Classified.the-variants.{Modelled, Declined, BadText, BadOperands}
 use Rattle.forms.specs.Classify.{classifyOf}
+use Rattle.details.specs.Why.{whyOf}
 use Rattle.memory.specs.Memory.{writeDstOf, x87StoreMemoryOf, x87StoreStatusOf}
 use Rattle.moves.specs.Moves.{x87ArithOf, x87CompareStatusOf, x87CompareFlagsOf, x87ConditionalMoveOf, x87UnaryOf, storeSlotOf}
 use Rattle.moves.specs.Pushes.{declineX87Of, landOf, pushConstOf, pushSlotOf, pushMemoryOf}
@@ -39,7 +40,7 @@ land-clears : (s : State) (value address : ℕ) → Clears (landOf s value addre
 unfolding landOf declineX87Of statementOf havocOf gives _▸_
 land-clears s value address = way (overflows s)
   where
-    way : (t : Bool) → Clears (cond t (declineX87Of (pushOf s value) 2 address) (gives (pushOf s value) 0))
+    way : (t : Bool) → Clears (cond t (declineX87Of (pushOf s value) 2 address 0) (gives (pushOf s value) 0))
     way true e = refl
     way false e = never e
 
@@ -68,7 +69,7 @@ module _ (i : Instruction) (s : State) where
   apply-clears (Exchange index) = never
   apply-clears (Unary op) = never
 
-  lowered-clears : (c : Classified) → Clears (loweredOf s c (siteOf i))
+  lowered-clears : (c : Classified) → Clears (loweredOf s c (whyOf i) (siteOf i))
   unfolding loweredOf declineX87Of statementOf havocOf gives _▸_
   lowered-clears (Modelled form) = apply-clears form
   lowered-clears Declined = λ e. refl

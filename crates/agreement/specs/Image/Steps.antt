@@ -74,7 +74,7 @@ pub landed : (s : State) (v a : ℕ) → landOf s v a .val ≡ 0 → Landed s v 
 unfolding landOf declineX87Of statementOf _▸_ gives pushOf
 landed s v a z = by (overflows s) refl z
   where
-    by : (t : Bool) → overflows s ≡ t → cond t (declineX87Of (pushOf s v) 2 a) (gives (pushOf s v) 0) .val ≡ 0 → Landed s v (cond t (declineX87Of (pushOf s v) 2 a) (gives (pushOf s v) 0))
+    by : (t : Bool) → overflows s ≡ t → cond t (declineX87Of (pushOf s v) 2 a 0) (gives (pushOf s v) 0) .val ≡ 0 → Landed s v (cond t (declineX87Of (pushOf s v) 2 a 0) (gives (pushOf s v) 0))
     by true e z = absurd (omega arith)
     by false e z = record { statements = refl; top = rw e; counted = rw e }
 

@@ -153,13 +153,13 @@ module _ {e : Effect} {o : Operand} where
   predicate s NotUnordered h = expression refl refl (rw h) refl
 
   -- A decline, and a push that may overflow
-  pub decline : (s : State) (why address : ℕ) → Makes e o s (declineX87Of s why address)
+  pub decline : (s : State) (why address detail : ℕ) → Makes e o s (declineX87Of s why address detail)
   unfolding declineX87Of coveredStatement ofOperand
-  decline s why address = from-same (havoc-same s) (next _ (statement _ _ _ _ refl refl) (λ t _. nothing why self))
+  decline s why address detail = from-same (havoc-same s) (next _ (statement _ _ _ _ refl refl) (λ t _. nothing why self))
 
   land : (s : State) (value address : ℕ) → Makes e o s (landOf s value address)
   unfolding landOf
-  land s value address = either (overflows s) (from-same (push-same s value) (decline (pushOf s value) 2 address)) (nothing 0 (push-same s value))
+  land s value address = either (overflows s) (from-same (push-same s value) (decline (pushOf s value) 2 address 0)) (nothing 0 (push-same s value))
 
 -- What is read from the operand and written to it
 module _ {e : Effect} {o : Operand} (site : Site) (at : site .memory ≡ o .address) where

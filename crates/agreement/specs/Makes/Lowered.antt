@@ -10,6 +10,7 @@ use Rattle.forms.specs.declared.Affected.the-variants as affected
 use Rattle.forms.specs.declared.Classified.{Classified}
 use Rattle.forms.specs.declared.Classified.the-variants.{Modelled, Declined, BadText, BadOperands}
 use Rattle.forms.specs.Classify.{classifyOf}
+use Rattle.details.specs.Why.{whyOf}
 use Rattle.forms.specs.Effects.{affectedOf, effectOf}
 use Rattle.memory.specs.Site.{siteOf}
 use Rattle.lifter.specs.Lift.{loweredOf}
@@ -30,12 +31,12 @@ effectSaid affected.Declined = untouched
 effectSaid affected.BadText = untouched
 effectSaid affected.BadOperands = untouched
 
-pub lowered-makes : (i : Instruction) (s : State) → Makes (effectSaid (effectOf i)) (firstOf i) s (loweredOf s (classifyOf i) (siteOf i))
+pub lowered-makes : (i : Instruction) (s : State) → Makes (effectSaid (effectOf i)) (firstOf i) s (loweredOf s (classifyOf i) (whyOf i) (siteOf i))
 unfolding loweredOf effectOf
 lowered-makes i s = way (classifyOf i) refl
   where
-    way : (c : Classified) → classifyOf i ≡ c → Makes (effectSaid (affectedOf c (eqb (firstOf i .kind) 0))) (firstOf i) s (loweredOf s c (siteOf i))
+    way : (c : Classified) → classifyOf i ≡ c → Makes (effectSaid (affectedOf c (eqb (firstOf i .kind) 0))) (firstOf i) s (loweredOf s c (whyOf i) (siteOf i))
     way (Modelled form) e = apply-makes (firstOf i) (siteOf i) refl refl s form (classify-fits i form e)
-    way Declined e = decline s 1 (i .address)
+    way Declined e = decline s 1 (i .address) (whyOf i)
     way BadText e = nothing 3 self
     way BadOperands e = nothing 4 self

@@ -26,7 +26,7 @@ same-length-3 : tie.Need-same-length-3
 same-length-3 c = search needs
 
 returns : tie.Need-returns
-returns c = lifts _ _ _ _ (sym (c .before .before .before .before .before .before .before .before .before .before .before .before .before .before .before .small .ensures) ∙ c .before .before .before .before .before .before .before .before .before .before .before .before .before .before .if1 .taken) _ _ _ _ _ _ (c .before .before .before .before .before .before .before .before .before .before .before .before .read .ensures) (c .before .before .before .before .before .before .before .before .before .lift .ensures) (c .before .before .keep .ensures)
+returns c = lifts _ _ _ _ (sym (c .before .before .before .before .before .before .before .before .before .before .before .before .before .before .before .small .ensures) ∙ c .before .before .before .before .before .before .before .before .before .before .before .before .before .before .if1 .taken) _ _ _ _ _ _ _ (c .before .before .before .before .before .before .before .before .before .before .before .before .read .ensures) (c .before .before .before .before .before .before .before .before .before .lift .ensures) (c .before .before .keep .ensures)
 
 same-length-4 : tie.Need-same-length-4
 same-length-4 c = search needs

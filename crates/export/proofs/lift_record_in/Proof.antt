@@ -37,7 +37,7 @@ returns c =
     let a = b .before .before .before .before in
     let s = a .before .before .before .before .before .before in
     rw (← a .record-at .ensures)
-    (steps-on _ _ _ _ _ _ (s .pre .1) (s .pre .0) _ _ _ _ _ (sym (b .before .is-record .ensures) ∙ b .if1 .taken) (c .before .before .before .before .before .before .before .before .before .before .lift-in .ensures)
+    (steps-on _ _ _ _ _ _ (s .pre .1) (s .pre .0) _ _ _ _ _ _ (sym (b .before .is-record .ensures) ∙ b .if1 .taken) (c .before .before .before .before .before .before .before .before .before .before .lift-in .ensures)
     (rw (← b .before .before .place .ensures) (c .before .before .tell .ensures)))
 
 slice-aggregate-lay : tie.Need-slice-aggregate-lay

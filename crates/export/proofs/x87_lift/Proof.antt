@@ -1,4 +1,7 @@
-use Rattle.export.proofs.Lifting.{from-flat, short-state, short-flat}
+use mathlib.Core.Logic.{⊎-elim}
+use mathlib.Core.Path.{refl}
+use Rattle.export.specs.Flat.{laid}
+use Rattle.export.proofs.Lifting.{from-flat, short-state, short-flat, few-words}
 use borrow.Author.Needs.{needs}
 use Rattle.export.proofs.x87_lift.Statement.{statement}
 use Rattle.export.proofs.x87_lift.Tie as tie
@@ -9,6 +12,12 @@ read-requires c κs = search needs
 lift-in-requires : tie.Need-lift-in-requires
 lift-in-requires c κs = search needs
 
+cast-out : tie.Need-cast-out
+cast-out c = search needs
+
+slice-write-out : tie.Need-slice-write-out
+slice-write-out c = search needs
+
 same-length : tie.Need-same-length
 same-length c = search needs
 
@@ -18,14 +27,27 @@ same-length-2 c = search needs
 same-length-3 : tie.Need-same-length-3
 same-length-3 c = search needs
 
+same-length-4 : tie.Need-same-length-4
+same-length-4 c = search needs
+
 returns : tie.Need-returns
-returns c = from-flat _ _ _ _ (c .before .before .before .before .before .before .before .before .before .before .before .before .if1 .taken) (c .before .before .before .before .before .before .before .before .before .before .before .if2 .taken) _ _ _ _ _ (c .before .before .before .before .before .before .before .before .before .before .read .ensures) (c .before .before .before .before .before .before .lift-in .ensures)
+unfolding laid
+returns c = from-flat _ _ _ _ _ (c .before .before .before .before .before .before .before .before .before .before .before .before .before .before .if1 .taken) (c .before .before .before .before .before .before .before .before .before .before .before .before .before .if2 .taken) (c .before .before .before .before .before .before .before .before .before .before .before .before .if3 .taken) _ _ _ _ _ _ _ (c .before .before .before .before .before .before .before .before .before .before .before .read .ensures) (c .before .before .before .before .before .before .before .lift-in .ensures) refl
+
+slice-write-out-2 : tie.Need-slice-write-out-2
+slice-write-out-2 c = search needs
+
+same-length-5 : tie.Need-same-length-5
+same-length-5 c = search needs
 
 returns-2 : tie.Need-returns-2
-returns-2 c = short-state _ _ _ _ (c .before .if1 .taken) (c .if2 .left)
+unfolding laid
+returns-2 c =
+    let k = c .before .if1 .taken in
+    ⊎-elim (λ w. short-state _ _ _ _ _ k (w .0 .taken) (w .1 .left) _ refl) (λ w. short-flat _ _ _ _ _ k (w .left) _ refl) (c .if2 .came)
 
 returns-3 : tie.Need-returns-3
-returns-3 c = short-flat _ _ _ _ (c .if1 .left)
+returns-3 c = few-words _ _ _ _ _ (c .if1 .left)
 
 pub x87-lift-spec : {M : Type 1} → statement M
 x87-lift-spec =
@@ -33,9 +55,14 @@ x87-lift-spec =
     (tie.spec
     read-requires
     lift-in-requires
+    cast-out
+    slice-write-out
     same-length
     same-length-2
     same-length-3
+    same-length-4
     returns
+    slice-write-out-2
+    same-length-5
     returns-2
     returns-3)

@@ -27,7 +27,7 @@ room-requires c κs = search needs
 returns : tie.Need-returns
 returns c =
     let a = c .before .before .before .before .before .before .before .before .before .before .before .args in
-    let b = loweredOf (a .s) (a .classified) (a .site) in
+    let b = loweredOf (a .s) (a .classified) (a .detail) (a .site) in
     let n = ap (λ (x : State). x .nodes) (c .before .before .before .before .before .before .lower .ensures .state) in
     rw (no-nodes b (a .s) (now (a .nodes)) (now (a .statements)) (omega (arith, n, c .before .before .room .ensures, c .if1 .taken))) (still refl refl)
 
@@ -37,7 +37,7 @@ room-requires-2 c κs = search needs
 returns-2 : tie.Need-returns-2
 returns-2 c =
     let a = c .before .before .before .before .before .before .before .before .before .before .before .before .before .before .args in
-    let b = loweredOf (a .s) (a .classified) (a .site) in
+    let b = loweredOf (a .s) (a .classified) (a .detail) (a .site) in
     let n = ap (λ (x : State). x .nodes) (c .before .before .before .before .before .before .before .before .before .lower .ensures .state) in
     let k = ap (λ (x : State). x .statements) (c .before .before .before .before .before .before .before .before .before .lower .ensures .state) in
     let h : b .st .nodes ≤ roomOf (length (now (a .nodes))) = omega (arith, n, c .before .before .before .before .before .room .ensures, c .before .before .before .if1 .left) in
@@ -55,7 +55,7 @@ same-length-2 c = search needs
 returns-3 : tie.Need-returns-3
 returns-3 c =
     let a = c .before .before .before .before .before .before .before .before .before .before .before .before .before .before .before .before .before .before .before .before .before .args in
-    let b = loweredOf (a .s) (a .classified) (a .site) in
+    let b = loweredOf (a .s) (a .classified) (a .detail) (a .site) in
     let n = ap (λ (x : State). x .nodes) (c .before .before .before .before .before .before .before .before .before .before .before .before .before .before .before .before .lower .ensures .state) in
     let k = ap (λ (x : State). x .statements) (c .before .before .before .before .before .before .before .before .before .before .before .before .before .before .before .before .lower .ensures .state) in
     let h : b .st .nodes ≤ roomOf (length (now (a .nodes))) = omega (arith, n, c .before .before .before .before .before .before .before .before .before .before .before .before .room .ensures, c .before .before .before .before .before .before .before .before .before .before .if1 .left) in

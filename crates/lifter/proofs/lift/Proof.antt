@@ -1,6 +1,5 @@
-use mathlib.Core.Path.{refl, sym, _∙_}
-use Rattle.lists.proofs.Sequence.{still}
-use Rattle.lifter.specs.Lift.{liftOf}
+use mathlib.Core.Path.{sym, _∙_}
+use Rattle.lifter.proofs.Answers.{lifted, not-lifted}
 use borrow.Author.Needs.{needs}
 use Rattle.lifter.proofs.lift.Statement.{statement}
 use Rattle.lifter.proofs.lift.Tie as tie
@@ -17,11 +16,17 @@ valid-requires c κs = search needs
 classify-requires : tie.Need-classify-requires
 classify-requires c κs = search needs
 
+reason-requires : tie.Need-reason-requires
+reason-requires c κs = search needs
+
 site-of-requires : tie.Need-site-of-requires
 site-of-requires c κs = search needs
 
 fit-requires : tie.Need-fit-requires
 fit-requires c κs = search needs
+
+beside-requires : tie.Need-beside-requires
+beside-requires c κs = search needs
 
 same-length : tie.Need-same-length
 same-length c = search needs
@@ -30,16 +35,16 @@ same-length-2 : tie.Need-same-length-2
 same-length-2 c = search needs
 
 returns : tie.Need-returns
-unfolding liftOf
 returns c =
-    let v = sym (rw (c .before .before .before .before .before .before .before .before .before .before .before .before .room .ensures, c .before .before .before .before .before .before .before .before .before .before .before .room2 .ensures) at (c .before .before .before .before .before .before .before .before .before .before .valid .ensures)) ∙ c .before .before .before .before .before .before .before .before .before .if1 .taken in
-    rw v (rw (c .before .before .before .before .before .before .before .before .classify .ensures, c .before .before .before .before .before .site-of .ensures) at (c .before .before .before .before .fit .ensures))
+    let i = c .before .before .before .before .before .before .before .before .before in
+    let k = i .before .before in
+    let v = sym (rw (k .before .before .before .before .room .ensures, k .before .before .before .room2 .ensures) at (k .before .before .valid .ensures)) ∙ k .before .if1 .taken in
+    lifted _ _ _ _ v _ _ _ _ _ _ _ _ (k .classify .ensures) (i .before .reason .ensures) (c .before .before .before .before .before .before .before .site-of .ensures) (c .before .before .before .before .before .before .fit .ensures) (c .beside .ensures)
 
 returns-2 : tie.Need-returns-2
-unfolding liftOf
 returns-2 c =
     let v = sym (rw (c .before .before .before .room .ensures, c .before .before .room2 .ensures) at (c .before .valid .ensures)) ∙ c .if1 .left in
-    rw v (still refl refl)
+    not-lifted _ _ _ _ v
 
 pub lift-spec : {M : Type 1} → statement M
 lift-spec =
@@ -49,8 +54,10 @@ lift-spec =
     room-requires-2
     valid-requires
     classify-requires
+    reason-requires
     site-of-requires
     fit-requires
+    beside-requires
     same-length
     same-length-2
     returns

@@ -1,12 +1,14 @@
-//! Classify and effect, compared with the Rust.
+//! Classify and effect, compared with the Rust, and why an instruction is
+//! declined, compared with what is said plainly.
 
-use plain::{FLAT, Instruction};
+use plain::{DECLINED, DETAILS, FLAT, Instruction, MODELLED};
 
 use crate::expect::{self, Answer, BEFORE, LENT};
 use crate::instructions::{Grid, fill_unused, put_out_of_range};
 use crate::report::{Report, hex};
 use crate::rng::Rng;
 use crate::subject::Subject;
+use crate::wellformed;
 
 /// What stands beyond the bytes of an instruction.
 const BEYOND: u8 = 0xa5;
@@ -18,8 +20,8 @@ struct Case {
 }
 
 /// Compare `size` cases. With room for the whole grid the grid comes
-/// first, and random cases follow; with less, the cases are spread over
-/// the grid, and one in eight is random.
+/// first, random cases follow, and each detail must be among them; with
+/// less, the cases are spread over the grid, and one in eight is random.
 pub fn run(subject: &impl Subject, size: u64, seed: u64) -> Report {
     let grid = Grid::default();
     let mut rng = Rng::new(seed);
@@ -40,6 +42,9 @@ pub fn run(subject: &impl Subject, size: u64, seed: u64) -> Report {
         };
         compare(subject, &case, &mut report);
     }
+    if whole && report.details.contains(&0) {
+        report.differs(|| "a detail that nothing of the grid has".to_string());
+    }
     report
 }
 
@@ -56,10 +61,15 @@ fn grid_case(grid: &Grid, at: usize, rng: &mut Rng) -> Case {
     }
 }
 
-/// A random instruction, in the domain or out of it; now and then with
-/// too few bytes or words, or with bytes beyond.
+/// A random instruction, in the domain or out of it, often one that is
+/// nearly well formed; now and then with too few bytes or words, or with
+/// bytes beyond.
 fn random_case(grid: &Grid, rng: &mut Rng) -> Case {
-    let mut insn = grid.random(rng);
+    let mut insn = if rng.one_in(3) {
+        wellformed::nearly(rng)
+    } else {
+        grid.random(rng)
+    };
     if rng.one_in(2) {
         fill_unused(&mut insn, rng);
     }
@@ -87,6 +97,7 @@ fn compare(subject: &impl Subject, case: &Case, report: &mut Report) {
     if got != expected {
         report.differs(|| say("classify", case, &expected, &got));
     }
+    compare_why(subject, case, report);
     if expect::blanks_around_ax(&case.flat) {
         report.note("effect left out (blanks around ax)", 1);
         return;
@@ -95,6 +106,32 @@ fn compare(subject: &impl Subject, case: &Case, report: &mut Report) {
     let got = asked(case, |flat, out| subject.effect(flat, out));
     if got != expected {
         report.differs(|| say("effect", case, &expected, &got));
+    }
+}
+
+/// Compare the detail; and what the Rust declines has one, and what it
+/// models has none.
+fn compare_why(subject: &impl Subject, case: &Case, report: &mut Report) {
+    let expected = expect::why(&case.flat, case.room);
+    let got = asked(case, |flat, out| subject.why(flat, out));
+    if got != expected {
+        report.differs(|| say("why", case, &expected, &got));
+    }
+    if let (number @ (MODELLED | DECLINED), Some(flat)) = (expected.number, case.flat.first_chunk())
+    {
+        let detail = plain::why(&Instruction::from_flat(flat));
+        report.count_detail(detail);
+        if !belongs(detail, number) {
+            report.differs(|| say(&format!("detail {detail}"), case, &expected, &got));
+        }
+    }
+}
+
+/// Whether a detail is one that stands beside this answer of the Rust.
+fn belongs(detail: u32, number: u32) -> bool {
+    match number {
+        DECLINED => DETAILS.contains(&detail),
+        _ => detail == 0,
     }
 }
 
@@ -117,4 +154,16 @@ fn say(call: &str, case: &Case, expected: &Answer, got: &Answer) -> String {
         case.room,
         hex(&case.flat)
     )
+}
+
+#[cfg(test)]
+mod tests {
+    use super::belongs;
+
+    #[test]
+    fn a_decline_has_a_detail_and_nothing_else_has() {
+        assert!(belongs(21, 1) && belongs(25, 1) && belongs(0, 0));
+        assert!(!belongs(0, 1) && !belongs(20, 1) && !belongs(26, 1));
+        assert!(!belongs(21, 0) && !belongs(25, 0));
+    }
 }

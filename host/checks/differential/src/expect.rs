@@ -1,5 +1,6 @@
-//! What classify and effect are expected to answer: the refusals by
-//! the manual, section 7, all else as the Rust says it.
+//! What classify, why and effect are expected to answer: the refusals by
+//! the manual, section 7, the detail of a decline as it is said plainly,
+//! all else as the Rust says it.
 
 use plain::{DECLINED, Instruction, MODELLED, REGISTER, TOO_SHORT, refusal};
 
@@ -38,23 +39,39 @@ impl Answer {
 /// What `classify` gives for `flat` with `room` words lent.
 #[must_use]
 pub fn classify(flat: &[u8], room: usize) -> Answer {
-    answer(flat, room, oracle::classify)
+    answer(flat, room, |insn| answered(oracle::classify(insn)))
+}
+
+/// What `why` gives for `flat` with `room` words lent: the answer of
+/// `classify`, and the detail of a decline.
+#[must_use]
+pub fn why(flat: &[u8], room: usize) -> Answer {
+    answer(flat, room, |insn| match oracle::classify(insn) {
+        Some(_) => (MODELLED, [0]),
+        None => (DECLINED, [plain::why(insn).into()]),
+    })
 }
 
 /// What `effect` gives for `flat` with `room` words lent.
 #[must_use]
 pub fn effect(flat: &[u8], room: usize) -> Answer {
     answer(flat, room, |insn| {
-        oracle::effect(insn).map(|flags| flags.map(u64::from))
+        answered(oracle::effect(insn).map(|flags| flags.map(u64::from)))
     })
 }
 
-/// Too short, then refused, then what the oracle says in `N` words, which
-/// are 0 beside all else that can be told.
+/// The number of what the oracle says, and its words: zeros where it
+/// declines.
+fn answered<const N: usize>(said: Option<[u64; N]>) -> (u32, [u64; N]) {
+    said.map_or((DECLINED, [0; N]), |words| (MODELLED, words))
+}
+
+/// Too short, then refused, then what is said in `N` words, which are 0
+/// beside all else that can be told.
 fn answer<const N: usize>(
     flat: &[u8],
     room: usize,
-    oracle: impl Fn(&Instruction) -> Option<[u64; N]>,
+    said: impl Fn(&Instruction) -> (u32, [u64; N]),
 ) -> Answer {
     if room < N {
         return Answer::new(TOO_SHORT, &[]);
@@ -66,10 +83,8 @@ fn answer<const N: usize>(
     if let Some(number) = refusal(&insn) {
         return Answer::new(number, &[0; N]);
     }
-    match oracle(&insn) {
-        Some(words) => Answer::new(MODELLED, &words),
-        None => Answer::new(DECLINED, &[0; N]),
-    }
+    let (number, words) = said(&insn);
+    Answer::new(number, &words)
 }
 
 /// Whether the effect of an instruction is outside the domain of
@@ -80,19 +95,11 @@ pub fn blanks_around_ax(flat: &[u8]) -> bool {
         return false;
     };
     let insn = Instruction::from_flat(flat);
-    let name = blank_trimmed(insn.mnemonic.used()).to_ascii_lowercase();
-    let text = insn.operands[0].text.used();
+    let name = insn.mnemonic.as_read();
+    let text = insn.operands[0].text;
     (name == b"fnstsw" || name == b"fstsw")
         && insn.count == 1
         && insn.operands[0].kind == REGISTER
-        && !text.eq_ignore_ascii_case(b"ax")
-        && blank_trimmed(text).eq_ignore_ascii_case(b"ax")
-}
-
-/// The trim of a text: bytes 9 to 13 and 32 at both ends.
-fn blank_trimmed(text: &[u8]) -> &[u8] {
-    let blank = |b: &u8| matches!(b, 9..=13 | 32);
-    let from = text.iter().position(|b| !blank(b)).unwrap_or(text.len());
-    let to = text.iter().rposition(|b| !blank(b)).map_or(from, |i| i + 1);
-    &text[from..to]
+        && !text.used().eq_ignore_ascii_case(b"ax")
+        && text.as_read() == b"ax"
 }

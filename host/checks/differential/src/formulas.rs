@@ -4,7 +4,7 @@
 use plain::sorts::{Format, Sort, WIDEST};
 use plain::state::{DEPTH, NODES, ROW, STATE};
 use plain::values::{VALUE, takes_given, words};
-use sleetgate_sys::untested;
+use sleetgate_sys::{DETAIL, untested};
 
 use crate::instructions::Grid;
 use crate::patterns::Patterns;
@@ -93,7 +93,8 @@ pub fn lifted(grid: &Grid, rng: &mut Rng) -> List {
         for _ in 0..profile.length {
             let depth = usize::try_from(state[DEPTH]).expect("at most 8");
             let flat = profile.next(grid, rng, depth).to_flat();
-            untested::lift(&flat, &mut state, &mut nodes, &mut statements);
+            let detail = &mut [0; DETAIL];
+            untested::lift(&flat, &mut state, &mut nodes, &mut statements, detail);
         }
     }
     let count = usize::try_from(state[NODES]).expect("at most the room");

@@ -1,8 +1,10 @@
 //! The lifter, compared with the Rust: answer, state, every word of both
-//! lists, and the real trees.
+//! lists, and the real trees; and the detail of a decline, as it is told
+//! and as it stands in the list, compared with what is said plainly.
 
 use plain::state::{DEPTH, INPUTS, NODES, ROW, STATE, STATEMENTS, room, valid};
 use plain::{BAD_STATE, FLAT, Instruction, NO_NODES, NO_STATEMENTS, TOO_SHORT, refusal};
+use sleetgate_sys::DETAIL;
 
 use crate::instructions::{Grid, put_out_of_range};
 use crate::report::{Report, hex};
@@ -63,11 +65,33 @@ struct Call {
     /// Words of each list.
     nodes: usize,
     statements: usize,
+    /// The words to be told.
+    told: Vec<u64>,
 }
 
 impl Call {
     fn expected(&self) -> Expected {
-        expect(&self.flat, &self.state, self.nodes, self.statements)
+        let told = self.told.len();
+        expect(&self.flat, &self.state, self.nodes, self.statements, told)
+    }
+}
+
+/// A number, and the state and the words to be told after the call.
+#[derive(Debug, PartialEq, Eq)]
+struct Answer {
+    number: u32,
+    state: Vec<u64>,
+    told: Vec<u64>,
+}
+
+impl Answer {
+    /// The number, beside words that are as they were before the call.
+    fn before(number: u32, call: &Call) -> Self {
+        Self {
+            number,
+            state: call.state.clone(),
+            told: call.told.clone(),
+        }
     }
 }
 
@@ -82,17 +106,33 @@ impl Expected {
     fn refused(number: u32) -> Self {
         Self { number, step: None }
     }
+
+    /// Tell the detail, where it has room.
+    pub fn tell(&self, out: &mut [u64]) {
+        if let Some(word) = out.first_mut() {
+            *word = self.step.as_ref().map_or(0, |step| step.detail.into());
+        }
+    }
 }
 
 /// The order of answers (the manual, section 7) over the oracle's step:
-/// 10, 5, 4, 3, 6, 7, then what the Rust says. The lists are lent with so
-/// many words.
+/// 10, 5, 4, 3, 6, 7, then what the Rust says. The lists, and what is to
+/// be told, are lent with so many words.
 #[must_use]
-pub fn expect(flat: &[u8], state: &[u64], nodes: usize, statements: usize) -> Expected {
+pub fn expect(
+    flat: &[u8],
+    state: &[u64],
+    nodes: usize,
+    statements: usize,
+    told: usize,
+) -> Expected {
     let (Some(flat), Some(state)) = (flat.first_chunk::<FLAT>(), state.first_chunk::<STATE>())
     else {
         return Expected::refused(TOO_SHORT);
     };
+    if told < DETAIL {
+        return Expected::refused(TOO_SHORT);
+    }
     let (nodes, statements) = (room(nodes), room(statements));
     if !valid(state, nodes, statements) {
         return Expected::refused(BAD_STATE);
@@ -233,7 +273,7 @@ impl<S: Subject> Sequence<'_, S> {
     fn refuse(&mut self, insn: &Instruction, rng: &mut Rng, report: &mut Report) {
         let mut call = self.call(insn, rng);
         let needed = call.expected().step.map_or(self.state, |step| step.state);
-        match rng.below(8) {
+        match rng.below(9) {
             0 => call.nodes = (index(needed[NODES]) * ROW).saturating_sub(1),
             1 => call.statements = (index(needed[STATEMENTS]) * ROW).saturating_sub(1),
             2 => {
@@ -244,6 +284,7 @@ impl<S: Subject> Sequence<'_, S> {
             4 => call.statements = rng.below(call.statements + 1),
             5 => call.flat.resize(rng.below(2 * FLAT), 0),
             6 => call.state.truncate(rng.below(STATE)),
+            7 => call.told.truncate(rng.below(DETAIL)),
             _ => {}
         }
         call.nodes = call.nodes.min(self.got.nodes.len());
@@ -264,7 +305,7 @@ impl<S: Subject> Sequence<'_, S> {
     }
 
     /// The call with all of the lists, and a few bytes and words beyond
-    /// the instruction and the state.
+    /// the instruction, the state and what is told.
     fn call(&self, insn: &Instruction, rng: &mut Rng) -> Call {
         let mut state = self.state.to_vec();
         state.resize(STATE + rng.below(3), UNWRITTEN);
@@ -275,33 +316,42 @@ impl<S: Subject> Sequence<'_, S> {
             state,
             nodes: self.got.nodes.len(),
             statements: self.got.statements.len(),
+            told: vec![UNWRITTEN; DETAIL + rng.below(3)],
         }
     }
 
-    /// Make the call and compare: number, state, and the lists around
-    /// the rows that are added. Gives the step, where there is one.
+    /// Make the call and compare: number, state, what is told, and the
+    /// lists around the rows that are added. Gives the step, where there
+    /// is one.
     fn compare(&mut self, call: Call, report: &mut Report) -> Option<Step> {
         let expected = call.expected();
         report.count(expected.number);
-        let mut state = call.state.clone();
-        let number = self.subject.lift(
-            &call.flat,
-            &mut state,
-            &mut self.got.nodes[..call.nodes],
-            &mut self.got.statements[..call.statements],
-        );
-        let mut wanted = call.state.clone();
+        let mut wanted = Answer::before(expected.number, &call);
+        expected.tell(&mut wanted.told);
         if let Some(step) = &expected.step {
-            wanted[..STATE].copy_from_slice(&step.state);
+            report.count_detail(step.detail);
+            wanted.state[..STATE].copy_from_slice(&step.state);
             self.expected.write(&self.state, step);
         }
-        let same = number == expected.number && state == wanted && self.same_near(&wanted);
-        if !same {
-            let told = (expected.number, number);
-            report.differs(|| self.say(&call, told, &wanted, &state));
+        let got = self.asked(&call);
+        if got != wanted || !self.same_near(&wanted.state) {
+            report.differs(|| self.say(&call, &wanted, &got));
             self.got = self.expected.clone();
         }
         expected.step
+    }
+
+    /// Make a call.
+    fn asked(&mut self, call: &Call) -> Answer {
+        let mut answer = Answer::before(0, call);
+        answer.number = self.subject.lift(
+            &call.flat,
+            &mut answer.state,
+            &mut self.got.nodes[..call.nodes],
+            &mut self.got.statements[..call.statements],
+            &mut answer.told,
+        );
+        answer
     }
 
     /// Whether the lists are equal from the rows before the state's own
@@ -347,17 +397,15 @@ impl<S: Subject> Sequence<'_, S> {
         report.note("trees too large", follower.left_out);
     }
 
-    fn say(&self, call: &Call, told: (u32, u32), wanted: &[u64], got: &[u64]) -> String {
+    fn say(&self, call: &Call, wanted: &Answer, got: &Answer) -> String {
         let (nodes, statements) = (self.changed(NODES), self.changed(STATEMENTS));
         format!(
             "lift of {}\nwith {} words of nodes and {} of statements\n\
-             before   {:?}\nexpected {} {wanted:?}\ngot      {} {got:?}\n{nodes}{statements}{}",
+             before   {:?}\nexpected {wanted:?}\ngot      {got:?}\n{nodes}{statements}{}",
             hex(&call.flat),
             call.nodes,
             call.statements,
             call.state,
-            told.0,
-            told.1,
             self.history()
         )
     }

@@ -8,6 +8,7 @@ use std::io;
 use plain::state::{DEPTH, INPUTS, NODES, ROW, SLOTS, STATE, STATEMENTS, TEMPORARIES};
 use plain::{INPUT_TOO_LONG, MODELLED, OVERFLOWED, Outcome, read};
 use program::Program;
+use sleetgate_sys::DETAIL;
 
 use crate::lift;
 use crate::programs::{Kind, batch};
@@ -46,6 +47,8 @@ pub struct Expected {
     /// declined.
     pub lifted: u64,
     pub declined: u64,
+    /// The details of the declines that have one.
+    pub details: Vec<u32>,
     /// Where the unchanged Rust's trees differ from the recorded rows.
     pub tree: Option<String>,
 }
@@ -71,6 +74,9 @@ fn compare(subject: &impl Lists, kind: Kind, input: &[u8], report: &mut Report) 
     report.note(kind.name(), 1);
     report.note("instructions lifted", expected.lifted);
     report.note("instructions declined", expected.declined);
+    for &detail in &expected.details {
+        report.count_detail(detail);
+    }
     if let Some(tree) = &expected.tree {
         report.differs(|| format!("{tree}\ninput {}", hex(input)));
     }
@@ -151,6 +157,7 @@ pub fn expect(input: &[u8]) -> Expected {
         follower: Follower::default(),
         lifted: 0,
         declined: 0,
+        details: Vec::new(),
         tree: None,
     };
     let refused = if input.len() > MOST_BYTES {
@@ -163,6 +170,7 @@ pub fn expect(input: &[u8]) -> Expected {
         number: refused.map_or(MODELLED, |(number, _)| number),
         lifted: work.lifted,
         declined: work.declined,
+        details: work.details,
         tree: work.tree,
     }
 }
@@ -175,6 +183,7 @@ struct Work {
     follower: Follower,
     lifted: u64,
     declined: u64,
+    details: Vec<u32>,
     tree: Option<String>,
 }
 
@@ -199,7 +208,7 @@ impl Work {
 
     fn lift(&mut self, insn: &plain::Instruction) -> u32 {
         let (nodes, statements) = (self.nodes.len(), self.statements.len());
-        let expected = lift::expect(&insn.to_flat(), &self.state, nodes, statements);
+        let expected = lift::expect(&insn.to_flat(), &self.state, nodes, statements, DETAIL);
         let Some(step) = expected.step else {
             return expected.number;
         };
@@ -208,6 +217,8 @@ impl Work {
         self.state = step.state;
         self.lifted += 1;
         self.declined += u64::from(expected.number != MODELLED);
+        self.details
+            .extend((step.detail != 0).then_some(step.detail));
         let lists = (self.nodes.as_slice(), self.statements.as_slice());
         let followed = self.follower.follow(insn, &before, &self.state, lists);
         if let Err(tree) = followed {

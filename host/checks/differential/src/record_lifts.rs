@@ -3,6 +3,7 @@
 
 use plain::state::{DEPTH, NODES, ROW, SLOTS, STATE, STATEMENTS};
 use plain::{FLAT, OVERFLOWED, TOO_SHORT, record};
+use sleetgate_sys::{DETAIL, READ, STEP};
 
 use crate::inputs::{Input, batch};
 use crate::instructions::Grid;
@@ -13,9 +14,6 @@ use crate::subject::{RecordLifter, Subject};
 
 /// What unwritten words hold.
 const UNWRITTEN: u64 = 0xa5a5_0000_5a5a_0000;
-
-/// Words beside the answer.
-const TOLD: usize = 2;
 
 /// What stands beyond the bytes of an instruction.
 const BEYOND: u8 = 0xa5;
@@ -74,7 +72,7 @@ fn whole(subject: &impl RecordLifter, grid: &Grid, rng: &mut Rng, report: &mut R
         state: vec![0; STATE],
         nodes: vec![UNWRITTEN; rows * ROW + rng.below(ROW)],
         statements: vec![UNWRITTEN; rows * ROW],
-        told: vec![UNWRITTEN; TOLD],
+        told: vec![UNWRITTEN; STEP],
     };
     loop {
         lent = compare(subject, &input, lent, report);
@@ -104,11 +102,11 @@ fn random(rng: &mut Rng) -> Lent {
         state,
         nodes: vec![UNWRITTEN; room * ROW + rng.below(ROW)],
         statements: vec![UNWRITTEN; room * ROW + rng.below(ROW)],
-        told: vec![UNWRITTEN; TOLD + rng.below(2)],
+        told: vec![UNWRITTEN; STEP + rng.below(2)],
     };
     match rng.below(32) {
         0 => lent.state.truncate(rng.below(STATE)),
-        1 => lent.told.truncate(rng.below(TOLD)),
+        1 => lent.told.truncate(rng.below(STEP)),
         2 => lent.state.push(UNWRITTEN),
         _ => {}
     }
@@ -120,8 +118,9 @@ fn compare(subject: &impl RecordLifter, input: &Input, before: Lent, report: &mu
     let mut expected = before.clone();
     let number = two_calls(subject, input, &mut expected);
     report.count(number);
-    if expected.told.get(1) == Some(&1) {
+    if let Some(&[_, 1, detail]) = expected.told.first_chunk() {
         report.note("records lifted", 1);
+        report.count_detail(u32::try_from(detail).unwrap_or(0));
     }
     let mut got = before.clone();
     let told = subject.lift_record(
@@ -154,32 +153,32 @@ fn compare(subject: &impl RecordLifter, input: &Input, before: Lent, report: &mu
     expected
 }
 
-/// Read, then lift: places as the one call tells them.
+/// Read, then lift: places and the detail as the one call tells them.
 fn two_calls(subject: &impl Subject, input: &Input, lent: &mut Lent) -> u32 {
-    if lent.told.len() < TOLD {
-        return TOO_SHORT;
-    }
-    if lent.state.len() < STATE {
-        lent.told[..TOLD].fill(0);
-        return TOO_SHORT;
-    }
-    let (mut flat, mut read) = ([BEYOND; FLAT + 7], [0; TOLD]);
-    let number = subject.read_record(&input.bytes, input.at, &mut flat, &mut read);
-    if read[1] == 0 {
-        lent.told[..TOLD].copy_from_slice(&read);
-        return number;
-    }
     let Lent {
         state,
         nodes,
         statements,
         told,
     } = lent;
-    let number = subject.lift(&flat, state, nodes, statements);
-    if number <= OVERFLOWED {
-        told[..TOLD].copy_from_slice(&read);
-    } else {
-        told[..TOLD].copy_from_slice(&[input.at as u64, 0]);
+    let Some(told) = told.first_chunk_mut::<STEP>() else {
+        return TOO_SHORT;
+    };
+    told.fill(0);
+    if state.len() < STATE {
+        return TOO_SHORT;
     }
+    let (mut flat, mut read) = ([BEYOND; FLAT + 7], [0; READ]);
+    let number = subject.read_record(&input.bytes, input.at, &mut flat, &mut read);
+    told[..READ].copy_from_slice(&read);
+    if read[1] == 0 {
+        return number;
+    }
+    let mut detail = [UNWRITTEN; DETAIL];
+    let number = subject.lift(&flat, state, nodes, statements, &mut detail);
+    if number > OVERFLOWED {
+        told[..READ].copy_from_slice(&[input.at as u64, 0]);
+    }
+    told[READ..].copy_from_slice(&detail);
     number
 }

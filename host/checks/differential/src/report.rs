@@ -2,6 +2,8 @@
 
 use std::fmt;
 
+use plain::DETAILS;
+
 /// The numbers of answers, from 0 on (the manual, section 7).
 const NUMBERS: [&str; 14] = [
     "modelled, or a record or the end",
@@ -20,6 +22,15 @@ const NUMBERS: [&str; 14] = [
     "input too long",
 ];
 
+/// The details of a decline, in their order (the manual, section 7).
+const DETAIL_NAMES: [&str; DETAILS.len()] = [
+    "unknown name",
+    "number of operands",
+    "kind of an operand",
+    "address unknown",
+    "width",
+];
+
 /// The counts of a run.
 #[derive(Debug, Default, Clone)]
 pub struct Report {
@@ -27,6 +38,8 @@ pub struct Report {
     pub compared: u64,
     /// How many of them expect each number.
     pub numbers: [u64; NUMBERS.len()],
+    /// How many declines expect each detail.
+    pub details: [u64; DETAILS.len()],
     /// Further counts, by name.
     pub notes: Vec<(&'static str, u64)>,
     /// How many differed.
@@ -40,6 +53,13 @@ impl Report {
     pub fn count(&mut self, number: u32) {
         self.compared += 1;
         self.numbers[number as usize] += 1;
+    }
+
+    /// Count a detail, if it is one.
+    pub fn count_detail(&mut self, detail: u32) {
+        if let Some(at) = DETAILS.iter().position(|&d| d == detail) {
+            self.details[at] += 1;
+        }
     }
 
     /// Add to a named count.
@@ -70,6 +90,12 @@ impl fmt::Display for Report {
         for (number, (count, name)) in self.numbers.iter().zip(NUMBERS).enumerate() {
             if *count != 0 {
                 writeln!(f, "  expecting {number} ({name}): {count}")?;
+            }
+        }
+        if self.details != [0; DETAILS.len()] {
+            let details = DETAILS.iter().zip(DETAIL_NAMES).zip(self.details);
+            for ((detail, name), count) in details {
+                writeln!(f, "  with detail {detail} ({name}): {count}")?;
             }
         }
         for (name, count) in &self.notes {

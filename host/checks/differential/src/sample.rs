@@ -1,9 +1,9 @@
 //! The stored samples: instructions and records with their answers, for
 //! the tests that have no Rust at hand.
 //!
-//! `instructions.bin` has rows of 249 bytes: the 177 of an instruction,
-//! the answer, eight form words of eight bytes, low byte first, and seven
-//! bytes of its effect.
+//! `instructions.bin` has rows of 250 bytes: the 177 of an instruction,
+//! the answer, eight form words of eight bytes, low byte first, seven
+//! bytes of its effect, and the detail of a decline.
 //!
 //! `records.bin` has rows of: input length, start place (two bytes each,
 //! low first), the answer, the next or offending place (two bytes), one
@@ -12,7 +12,7 @@
 
 use std::collections::BTreeMap;
 
-use plain::{FLAT, Instruction, Operand, Outcome, read};
+use plain::{DETAILS, FLAT, Instruction, Operand, Outcome, read};
 
 use crate::expect;
 use crate::inputs::{Input, batch};
@@ -24,13 +24,13 @@ use crate::records::told;
 use crate::rng::Rng;
 
 /// Bytes of a row of `instructions.bin`.
-pub const ROW: usize = FLAT + 1 + 8 * 8 + 7;
+pub const ROW: usize = FLAT + 1 + 8 * 8 + 7 + 1;
 /// Bytes of a row of `records.bin` before its input.
 pub const HEAD: usize = 8 + FLAT;
 
 const SEED: u64 = 87;
-/// Declined operand lists of each name.
-const DECLINES: usize = 12;
+/// Declined operand lists of each name with each detail.
+const DECLINES: usize = 5;
 /// Operand lists of each name that is none of the 56.
 const NEAR: usize = 3;
 /// Instructions out of range.
@@ -74,11 +74,34 @@ fn of_name(name: &[u8], rng: &mut Rng) -> Vec<Instruction> {
         chosen.extend([plainest, other]);
     }
     for _ in 0..DECLINES {
-        let mut insn = *rng.pick(&declined);
-        fill_unused(&mut insn, rng);
-        chosen.push(insn);
+        chosen.extend(one_of_each(&declined, rng));
     }
     chosen
+}
+
+/// Of these instructions one with each detail that they have.
+fn one_of_each(declined: &[Instruction], rng: &mut Rng) -> Vec<Instruction> {
+    let mut chosen = Vec::new();
+    for detail in DETAILS {
+        let alike = declined.iter().filter(|insn| plain::why(insn) == detail);
+        let alike: Vec<&Instruction> = alike.collect();
+        if !alike.is_empty() {
+            let mut insn = **rng.pick(&alike);
+            fill_unused(&mut insn, rng);
+            chosen.push(insn);
+        }
+    }
+    chosen
+}
+
+/// Declined instructions of a name, one with each detail that it can have.
+pub fn declines(name: &str, rng: &mut Rng) -> Vec<Instruction> {
+    let lists = operand_lists();
+    let insns = lists
+        .iter()
+        .map(|given| Instruction::new(4096, name.as_bytes(), given));
+    let declined: Vec<Instruction> = insns.filter(|i| oracle::classify(i).is_none()).collect();
+    one_of_each(&declined, rng)
 }
 
 /// Every list of up to two operands, and some of three.
@@ -126,11 +149,14 @@ fn out_of_range(rng: &mut Rng) -> Vec<Instruction> {
 fn instruction_row(flat: &[u8; FLAT]) -> Vec<u8> {
     let form = expect::classify(flat, 8);
     let effect = expect::effect(flat, 7);
-    assert_eq!(form.number, effect.number, "one answer for both calls");
+    let why = expect::why(flat, 1);
+    let numbers = [form.number, effect.number, why.number];
+    assert_eq!(numbers, [form.number; 3], "one answer for all calls");
     let mut row = flat.to_vec();
     row.push(u8::try_from(form.number).expect("a small number"));
     row.extend(form.words[..8].iter().flat_map(|w| w.to_le_bytes()));
     row.extend(effect.words[..7].iter().map(|&w| u8::from(w == 1)));
+    row.push(u8::try_from(why.words[0]).expect("a small number"));
     row
 }
 

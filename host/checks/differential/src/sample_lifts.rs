@@ -3,16 +3,19 @@
 //! A row stands for itself: the state before (13 numbers of four bytes,
 //! low byte first), the rooms lent for nodes and statements (two bytes
 //! each), the 177 bytes of the instruction, the answer, the state after,
-//! how many nodes and how many statements were added (one byte each),
-//! then their rows, each of four words of eight bytes.
+//! how many nodes and how many statements were added and the detail of a
+//! decline (one byte each), then the added rows, each of four words of
+//! eight bytes.
 
 use plain::Instruction;
 use plain::state::{DEPTH, NODES, ROW, STATE, STATEMENTS};
+use sleetgate_sys::DETAIL;
 
 use crate::instructions::{Grid, put_out_of_range};
 use crate::lift::expect;
 use crate::names::NAMES;
 use crate::rng::Rng;
+use crate::sample::declines;
 use crate::sequences::Profile;
 use crate::wellformed::{self, Style};
 
@@ -46,7 +49,7 @@ pub fn lifts() -> Vec<u8> {
     bytes
 }
 
-/// Two pushes, then instructions of one name.
+/// Two pushes, then instructions of one name; the last of them decline.
 fn of_name(name: &str, rng: &mut Rng, bytes: &mut Vec<u8>) {
     let mut state = [0; STATE];
     for push in ["fldz", "fld1"] {
@@ -59,6 +62,9 @@ fn of_name(name: &str, rng: &mut Rng, bytes: &mut Vec<u8>) {
             near: round % 3 != 2,
         };
         let insn = wellformed::of_name(rng, style, name, depth(&state));
+        state = put(&state, &insn, [MOST; 2], bytes);
+    }
+    for insn in declines(name, rng) {
         state = put(&state, &insn, [MOST; 2], bytes);
     }
 }
@@ -113,7 +119,9 @@ fn put(
 ) -> [u64; STATE] {
     let flat = insn.to_flat();
     let [nodes, statements] = rooms.map(|r| usize::try_from(r).expect("small") * ROW);
-    let expected = expect(&flat, state, nodes, statements);
+    let expected = expect(&flat, state, nodes, statements, DETAIL);
+    let mut detail = [0; DETAIL];
+    expected.tell(&mut detail);
     let (after, nodes, statements) = match expected.step {
         Some(step) => (step.state, step.nodes, step.statements),
         None => (*state, Vec::new(), Vec::new()),
@@ -125,6 +133,7 @@ fn put(
     put_state(&after, bytes);
     bytes.extend(small::<1>(nodes.len() as u64));
     bytes.extend(small::<1>(statements.len() as u64));
+    bytes.extend(small::<1>(detail[0]));
     let words = nodes.iter().chain(&statements).flatten();
     bytes.extend(words.flat_map(|w| w.to_le_bytes()));
     after

@@ -15,7 +15,8 @@ pub const LONGEST: usize = 200;
 pub struct Profile {
     pub length: usize,
     style: Style,
-    /// One in this many is any instruction of the grid.
+    /// One in this many is any instruction of the grid, or nearly well
+    /// formed.
     wild: usize,
     /// One in this many is out of range.
     refused: usize,
@@ -61,7 +62,11 @@ impl Profile {
     /// The next instruction over a stack of this depth.
     pub fn next(&self, grid: &Grid, rng: &mut Rng, depth: usize) -> Instruction {
         let mut insn = if rng.one_in(self.wild) {
-            grid.random(rng)
+            if rng.one_in(2) {
+                wellformed::nearly(rng)
+            } else {
+                grid.random(rng)
+            }
         } else {
             let lean = self.lean(rng);
             wellformed::random(rng, self.style, lean, depth)

@@ -1,8 +1,10 @@
 //! One step of a lift by the recording build of `x87.rs`: from any valid
-//! state, the next state and the rows that the instruction adds.
+//! state, the next state and the rows that the instruction adds; and the
+//! detail of a decline, which the Rust does not have, as it is said
+//! plainly.
 
-use plain::Instruction;
 use plain::state::{DEPTH, INPUTS, NODES, ROW, SLOTS, STATE, STATEMENTS, TEMPORARIES};
+use plain::{DECLINED, Instruction};
 use recorder::Lifter;
 use recording_ir::expr::Expr;
 use recording_ir::{Row, recorded};
@@ -13,6 +15,8 @@ use crate::oracle::spelt;
 #[derive(Debug, Clone)]
 pub struct Step {
     pub answer: u32,
+    /// Why it is declined, 0 beside every answer but 1.
+    pub detail: u32,
     pub state: [u64; STATE],
     pub nodes: Vec<Row>,
     pub statements: Vec<Row>,
@@ -25,11 +29,21 @@ const UNSUPPORTED: u64 = 6;
 #[must_use]
 pub fn step(state: &[u64; STATE], insn: &Instruction) -> Step {
     let mut lifter = lifter(state);
-    let insn = spelt(insn);
-    let ((), nodes) = recorded(small(state[NODES]), || lifter.lift(&insn));
-    let statements: Vec<Row> = lifter.statements().iter().map(|s| s.words()).collect();
+    let as_spelt = spelt(insn);
+    let ((), nodes) = recorded(small(state[NODES]), || lifter.lift(&as_spelt));
+    let mut statements: Vec<Row> = lifter.statements().iter().map(|s| s.words()).collect();
+    let answer = answer(&statements);
+    let detail = if answer == DECLINED {
+        plain::why(insn)
+    } else {
+        0
+    };
+    if let Some([UNSUPPORTED, .., last]) = statements.last_mut() {
+        *last = detail.into();
+    }
     Step {
-        answer: answer(&statements),
+        answer,
+        detail,
         state: next(state, &lifter, &nodes, &statements),
         nodes,
         statements,

@@ -6,6 +6,7 @@ use std::path::PathBuf;
 
 use plain::FLAT;
 use plain::state::{NODES, ROW as ROW_WORDS, STATE, STATEMENTS};
+use sleetgate_sys::DETAIL;
 
 use crate::report::{Report, hex};
 use crate::sample::{HEAD, ROW};
@@ -31,23 +32,28 @@ pub fn file(name: &str) -> Option<Vec<u8>> {
 /// What the words to be told hold before a call.
 const UNWRITTEN: u64 = u64::MAX;
 
-/// Compare classify and effect with the rows of `instructions.bin`.
+/// A number that has room in a byte, or the largest byte.
+fn byte(number: impl TryInto<u8>) -> u8 {
+    number.try_into().unwrap_or(u8::MAX)
+}
+
+/// Compare classify, effect and why with the rows of `instructions.bin`.
 pub fn instructions(subject: &impl Subject, stored: &[u8]) -> Report {
     let mut report = Report::default();
     assert_eq!(stored.len() % ROW, 0, "whole rows");
     for row in stored.chunks(ROW) {
-        let mut got = row[..FLAT].to_vec();
+        let flat = &row[..FLAT];
         let (mut form, mut effect) = ([UNWRITTEN; 8], [UNWRITTEN; 7]);
-        let number = subject.classify(&row[..FLAT], &mut form);
-        let same = subject.effect(&row[..FLAT], &mut effect) == number;
-        got.push(u8::try_from(number).unwrap_or(u8::MAX));
-        got.extend(form.iter().flat_map(|w: &u64| w.to_le_bytes()));
-        got.extend(
-            effect
-                .iter()
-                .map(|&w: &u64| u8::try_from(w).unwrap_or(u8::MAX)),
-        );
+        let mut detail = [UNWRITTEN; DETAIL];
+        let number = subject.classify(flat, &mut form);
+        let same =
+            subject.effect(flat, &mut effect) == number && subject.why(flat, &mut detail) == number;
+        let mut got = flat.to_vec();
+        got.push(byte(number));
+        got.extend(form.iter().flat_map(|w| w.to_le_bytes()));
+        got.extend(effect.into_iter().chain(detail).map(byte));
         report.count(row[FLAT].into());
+        report.count_detail(row[ROW - 1].into());
         if got != row || !same {
             report.differs(|| format!("stored {}\ngot    {}", hex(row), hex(&got)));
         }
@@ -77,9 +83,9 @@ fn record_row(subject: &impl Subject, row: &[u8]) -> Vec<u8> {
     let at = two_bytes(&row[2..]).into();
     let number = subject.read_record(&row[HEAD..], at, &mut flat, &mut words);
     let mut got = row[..4].to_vec();
-    got.push(u8::try_from(number).unwrap_or(u8::MAX));
+    got.push(byte(number));
     got.extend(u16::try_from(words[0]).unwrap_or(u16::MAX).to_le_bytes());
-    got.push(u8::try_from(words[1]).unwrap_or(u8::MAX));
+    got.push(byte(words[1]));
     got.extend(flat);
     got.extend(&row[HEAD..]);
     got
@@ -91,7 +97,8 @@ mod lift_row {
     pub const INSTRUCTION: usize = 56;
     pub const ANSWER: usize = 233;
     pub const COUNTS: usize = 286;
-    pub const ROWS: usize = 288;
+    pub const DETAIL: usize = 288;
+    pub const ROWS: usize = 289;
 }
 
 /// Compare the lifter with the rows of `lifts.bin`.
@@ -103,6 +110,7 @@ pub fn lifts(subject: &impl Subject, mut stored: &[u8]) -> Report {
         let (row, rest) = stored.split_at(lift_row::ROWS + added * 8 * ROW_WORDS);
         stored = rest;
         report.count(row[lift_row::ANSWER].into());
+        report.count_detail(row[lift_row::DETAIL].into());
         let got = lift_answer(subject, row);
         if got != row[lift_row::ANSWER..] {
             report.differs(|| format!("stored {}\ngot {}", hex(row), hex(&got)));
@@ -119,14 +127,16 @@ fn lift_answer(subject: &impl Subject, row: &[u8]) -> Vec<u8> {
     let before: [u64; STATE] = state_at(row);
     let mut state = before;
     let flat = &row[lift_row::INSTRUCTION..lift_row::ANSWER];
-    let number = subject.lift(flat, &mut state, &mut nodes, &mut statements);
-    let mut got = vec![u8::try_from(number).unwrap_or(u8::MAX)];
+    let mut detail = [UNWRITTEN; DETAIL];
+    let number = subject.lift(flat, &mut state, &mut nodes, &mut statements, &mut detail);
+    let mut got = vec![byte(number)];
     got.extend(state.iter().flat_map(|w| w.to_le_bytes()[..4].to_vec()));
     let added = |at: usize, list: &[u64]| written(list, before[at], state[at]);
     let (nodes, statements) = (added(NODES, &nodes), added(STATEMENTS, &statements));
     for list in [&nodes, &statements] {
-        got.push(u8::try_from(list.len() / ROW_WORDS).unwrap_or(u8::MAX));
+        got.push(byte(list.len() / ROW_WORDS));
     }
+    got.extend(detail.map(byte));
     got.extend(
         nodes
             .iter()

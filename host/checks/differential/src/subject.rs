@@ -5,6 +5,7 @@ use sleetgate_sys::untested;
 /// The calls that read and lift.
 pub trait Subject {
     fn classify(&self, flat: &[u8], out: &mut [u64]) -> u32;
+    fn why(&self, flat: &[u8], out: &mut [u64]) -> u32;
     fn effect(&self, flat: &[u8], out: &mut [u64]) -> u32;
     fn read_record(&self, input: &[u8], at: usize, flat: &mut [u8], out: &mut [u64]) -> u32;
     fn lift(
@@ -13,6 +14,7 @@ pub trait Subject {
         state: &mut [u64],
         nodes: &mut [u64],
         statements: &mut [u64],
+        out: &mut [u64],
     ) -> u32;
 }
 
@@ -52,6 +54,10 @@ impl Subject for Library {
         untested::classify(flat, out)
     }
 
+    fn why(&self, flat: &[u8], out: &mut [u64]) -> u32 {
+        untested::why(flat, out)
+    }
+
     fn effect(&self, flat: &[u8], out: &mut [u64]) -> u32 {
         untested::effect(flat, out)
     }
@@ -66,8 +72,9 @@ impl Subject for Library {
         state: &mut [u64],
         nodes: &mut [u64],
         statements: &mut [u64],
+        out: &mut [u64],
     ) -> u32 {
-        untested::lift(flat, state, nodes, statements)
+        untested::lift(flat, state, nodes, statements, out)
     }
 }
 

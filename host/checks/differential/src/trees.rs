@@ -73,7 +73,8 @@ impl Follower {
         let changed = |i: usize| i as u64 >= before[DEPTH] || before[i] != after[i];
         same_slots(lifter, after, lists.0, changed)?;
         let from = before[STATEMENTS] - self.first_statement;
-        same_statements(lifter, from, before[STATEMENTS], lists)
+        let detail = plain::why(insn).into();
+        same_statements(lifter, from, before[STATEMENTS], lists, detail)
     }
 
     /// Compare every slot of the stack.
@@ -145,24 +146,25 @@ fn same_slots(
 }
 
 /// The statements from `from` on, which have the numbers from `number` on
-/// in the list.
+/// in the list; one that declines has this detail.
 fn same_statements(
     lifter: &Lifter,
     from: u64,
     number: u64,
     lists: (&[u64], &[u64]),
+    detail: u64,
 ) -> Result<(), String> {
     let from = usize::try_from(from).expect("in memory");
     for (i, stmt) in lifter.statements()[from..].iter().enumerate() {
         let words = row(lists.1, number + i as u64);
-        if !words.is_some_and(|words| same_statement(stmt, words, lists.0)) {
+        if !words.is_some_and(|words| same_statement(stmt, words, lists.0, detail)) {
             return Err(format!("statement {words:?} is {stmt}"));
         }
     }
     Ok(())
 }
 
-fn same_statement(stmt: &IrStmt, words: [u64; 4], nodes: &[u64]) -> bool {
+fn same_statement(stmt: &IrStmt, words: [u64; 4], nodes: &[u64], detail: u64) -> bool {
     let [kind, a, b, c] = words;
     match stmt {
         IrStmt::LoadMem { dst, address, bits } => {
@@ -187,7 +189,7 @@ fn same_statement(stmt: &IrStmt, words: [u64; 4], nodes: &[u64]) -> bool {
         IrStmt::Unsupported { comment, .. } => {
             let reasons = ["unmodelled x87 form", "x87 stack overflow"];
             let reason = a.checked_sub(1).and_then(|i| reasons.get(i as usize));
-            kind == 6 && reason.is_some_and(|r| *comment == format!("{r} at {b:#x}")) && c == 0
+            kind == 6 && reason.is_some_and(|r| *comment == format!("{r} at {b:#x}")) && c == detail
         }
         IrStmt::Nop => false,
     }

@@ -1,7 +1,8 @@
 //! Well-formed instructions: a name with operands that it takes.
 
-use plain::{Instruction, Operand};
+use plain::{Instruction, Operand, Text};
 
+use crate::operands::WIDTHS;
 use crate::rng::Rng;
 
 /// What the operands of a name may be. Widths are in bits.
@@ -135,6 +136,36 @@ pub fn of_name(rng: &mut Rng, style: Style, name: &str, depth: usize) -> Instruc
     let entry = TABLE.iter().find(|e| e.0 == name).expect("one of the 56");
     let operands = operands(rng, style, entry.1, depth);
     Instruction::new(4096, &name_text(rng, style, name), &operands)
+}
+
+/// A random instruction that is nearly well formed: one or two things of
+/// it are not as its name takes them.
+pub fn nearly(rng: &mut Rng) -> Instruction {
+    let style = Style {
+        odd: rng.one_in(2),
+        near: false,
+    };
+    let name = rng.pick(&TABLE).0;
+    let mut insn = of_name(rng, style, name, 8);
+    for _ in 0..rng.between(1, 2) {
+        spoil(&mut insn, rng);
+    }
+    insn
+}
+
+/// Change the number of operands, or the kind, the text, the address or the
+/// width of one. What is changed may be ignored, where it is a field of
+/// another kind.
+fn spoil(insn: &mut Instruction, rng: &mut Rng) {
+    let at = rng.below(insn.used().len().max(1));
+    let operand = &mut insn.operands[at];
+    match rng.below(8) {
+        0 => insn.count = *rng.pick(&[0, 1, 2, 3]),
+        1 => operand.kind = *rng.pick(&[plain::REGISTER, plain::MEMORY, plain::OTHER]),
+        2 => operand.text = Text::new(rng.pick(&["st(1)", "st(8)", "st", "eax"]).as_bytes()),
+        3 | 4 => operand.width = *rng.pick(&WIDTHS),
+        _ => operand.known = 0,
+    }
 }
 
 /// Operands of this shape, in one of up to three ways.

@@ -8,7 +8,7 @@ use std::hint::black_box;
 
 use plain::state::{DEPTH, ROW, STATE};
 use plain::{FLAT, Instruction, MODELLED};
-use sleetgate_sys::READ;
+use sleetgate_sys::{DETAIL, STEP};
 
 use crate::instructions::Grid;
 use crate::names::NAMES;
@@ -142,13 +142,14 @@ impl Default for Lists {
 impl Lists {
     /// Lift one instruction.
     pub fn lift(&mut self, flat: &[u8; FLAT], state: &mut [u64; STATE]) -> u32 {
-        sleetgate_sys::lift(flat, state, &mut self.nodes, &mut self.statements)
+        let (nodes, statements) = (&mut self.nodes, &mut self.statements);
+        sleetgate_sys::lift(flat, state, nodes, statements, &mut [0; DETAIL])
     }
 
     /// Lift the record at a place, and give the next place.
     fn lift_record(&mut self, input: &[u8], at: usize, state: &mut [u64; STATE]) -> usize {
         let (nodes, statements) = (&mut self.nodes, &mut self.statements);
-        let mut told = [0; READ];
+        let mut told = [0; STEP];
         let answer = sleetgate_sys::lift_record(input, at, state, nodes, statements, &mut told);
         assert_eq!((answer, told[1]), (MODELLED, 1));
         usize::try_from(told[0]).expect("a place")

@@ -13,8 +13,8 @@ use plain::sorts::sorts;
 use plain::state::{DEPTH, NODES, ROW, STATE, STATEMENTS};
 use plain::values::words as words_of;
 use sleetgate::{
-    Form, Format, Instruction, Lifted, Lifter, Node, Nodes, Operand, Place, Refusal, Sort, Source,
-    Why, check, classify, effect,
+    Detail, Form, Format, Instruction, Lifted, Lifter, Node, Nodes, Operand, Place, Refusal, Sort,
+    Source, check, classify, effect, why,
 };
 
 /// Rows that each list is lent.
@@ -62,9 +62,12 @@ impl Raw {
         }
     }
 
-    fn lift(&mut self, insn: &plain::Instruction) -> u32 {
+    /// The answer, and the detail.
+    fn lift(&mut self, insn: &plain::Instruction) -> (u32, u64) {
         let (nodes, statements) = (&mut self.nodes, &mut self.statements);
-        sleetgate_sys::lift(&insn.to_flat(), &mut self.state, nodes, statements)
+        let (flat, mut out) = (insn.to_flat(), [0; sleetgate_sys::DETAIL]);
+        let number = sleetgate_sys::lift(&flat, &mut self.state, nodes, statements, &mut out);
+        (number, out[0])
     }
 
     /// Whether the binding's lift has the same state and lists.
@@ -82,12 +85,21 @@ impl Raw {
     }
 }
 
-fn number(lifted: Result<Lifted, Refusal>) -> u32 {
+/// The answer of a lift, and the detail.
+fn lifted_told(lifted: Result<Lifted, Refusal>) -> (u32, u64) {
     match lifted {
-        Ok(Lifted::Modelled) => 0,
-        Ok(Lifted::Declined(Why::Form)) => 1,
-        Ok(Lifted::Declined(Why::Overflow)) => 2,
-        Err(refusal) => refusal.number(),
+        Ok(Lifted::Modelled) => (0, 0),
+        Ok(Lifted::Declined(why)) => (why.number(), why.detail().map_or(0, Detail::number)),
+        Err(refusal) => (refusal.number(), 0),
+    }
+}
+
+/// The answer of `why`, and the detail.
+fn why_told(detail: Result<Option<Detail>, Refusal>) -> (u32, u64) {
+    match detail {
+        Err(refusal) => (refusal.number(), 0),
+        Ok(None) => (0, 0),
+        Ok(Some(detail)) => (1, detail.number()),
     }
 }
 
@@ -109,9 +121,12 @@ fn compared(change: fn(Instruction) -> Instruction) -> (u32, u32) {
             let classified = sleetgate_sys::classify(&insn.to_flat(), &mut form);
             let mut flags = [0; sleetgate_sys::EFFECT];
             let effected = sleetgate_sys::effect(&insn.to_flat(), &mut flags);
+            let mut detail = [0; sleetgate_sys::DETAIL];
+            let explained = sleetgate_sys::why(&insn.to_flat(), &mut detail);
             let same = told(classify(&typed)) == (classified, form)
                 && effect_told(effect(&typed)) == (effected, flags)
-                && number(lifter.lift(&typed)) == raw.lift(&insn)
+                && why_told(why(&typed)) == (explained, detail[0])
+                && lifted_told(lifter.lift(&typed)) == raw.lift(&insn)
                 && raw.is(&lifter);
             all += 1;
             if !same {

@@ -4,103 +4,18 @@
 //! These need no static library, but the oracle.
 #![cfg(not(no_oracle))]
 
+#[path = "can_fail/echo.rs"]
+mod echo;
+
 use differential::report::Report;
 use differential::steps::{self, Step, step};
 use differential::subject::Subject;
 use differential::trees::Follower;
-use differential::{classify, expect, lift, records};
-use plain::state::{DEPTH, INPUTS, NODES, SLOTS, STATE, STATEMENTS, room};
+use differential::{classify, lift, records};
+use plain::state::{DEPTH, INPUTS, NODES, SLOTS, STATE, STATEMENTS};
 use plain::{BAD_TEXT, DECLINED, FLAT, Instruction, OVERFLOWED, Operand, Text};
 
-/// Answers as expected, after its fault has changed what it is asked or
-/// what it says.
-#[derive(Default)]
-struct Echo {
-    /// A change of the instruction before it is looked at.
-    misread: Option<fn(&mut Instruction)>,
-    /// A change of the words after the answer.
-    miswrite: Option<fn(u32, &mut [u64])>,
-    /// A change of a lifted step that began in this state.
-    mislift: Option<Mislift>,
-}
-
-type Mislift = fn(&[u64; STATE], &Instruction, &mut Step);
-
-impl Echo {
-    fn asked(&self, flat: &[u8]) -> Vec<u8> {
-        let mut seen = flat.to_vec();
-        if let (Some(misread), Some(flat)) = (self.misread, flat.first_chunk()) {
-            let mut insn = Instruction::from_flat(flat);
-            misread(&mut insn);
-            seen = insn.to_flat().to_vec();
-        }
-        seen
-    }
-
-    fn told(&self, answer: &expect::Answer, out: &mut [u64]) -> u32 {
-        out.copy_from_slice(&answer.words[..out.len()]);
-        if let Some(miswrite) = self.miswrite {
-            miswrite(answer.number, out);
-        }
-        answer.number
-    }
-}
-
-impl Subject for Echo {
-    fn classify(&self, flat: &[u8], out: &mut [u64]) -> u32 {
-        let answer = expect::classify(&self.asked(flat), out.len());
-        self.told(&answer, out)
-    }
-
-    fn effect(&self, flat: &[u8], out: &mut [u64]) -> u32 {
-        let answer = expect::effect(&self.asked(flat), out.len());
-        self.told(&answer, out)
-    }
-
-    fn read_record(&self, input: &[u8], at: usize, flat: &mut [u8], out: &mut [u64]) -> u32 {
-        if out.len() < 2 {
-            return plain::TOO_SHORT;
-        }
-        let (number, place, insn) = if flat.len() < FLAT {
-            (plain::TOO_SHORT, 0, None)
-        } else {
-            records::told(&plain::read(input, at))
-        };
-        out[..2].copy_from_slice(&[place as u64, insn.is_some().into()]);
-        if let Some(insn) = insn {
-            flat[..FLAT].copy_from_slice(&insn);
-        }
-        if let Some(miswrite) = self.miswrite {
-            miswrite(number, out);
-        }
-        number
-    }
-
-    fn lift(
-        &self,
-        flat: &[u8],
-        state: &mut [u64],
-        nodes: &mut [u64],
-        statements: &mut [u64],
-    ) -> u32 {
-        let seen = self.asked(flat);
-        let expected = lift::expect(&seen, state, nodes.len(), statements.len());
-        let Some(mut step) = expected.step else {
-            return expected.number;
-        };
-        if let (Some(mislift), Some(flat)) = (self.mislift, flat.first_chunk()) {
-            let before = state[..STATE].try_into().expect("13 words");
-            let mut wrong = step.clone();
-            mislift(&before, &Instruction::from_flat(flat), &mut wrong);
-            if wrong.state[STATEMENTS] <= room(statements.len()) {
-                step = wrong;
-            }
-        }
-        lift::write(nodes, statements, state, &step);
-        state[..STATE].copy_from_slice(&step.state);
-        step.answer
-    }
-}
+use echo::{Echo, Mislift, shown};
 
 /// Takes an instruction of exactly 177 bytes alone.
 struct Exactly(Echo);
@@ -117,6 +32,10 @@ impl Subject for Exactly {
         self.0.classify(self.taken(flat), out)
     }
 
+    fn why(&self, flat: &[u8], out: &mut [u64]) -> u32 {
+        self.0.why(self.taken(flat), out)
+    }
+
     fn effect(&self, flat: &[u8], out: &mut [u64]) -> u32 {
         self.0.effect(self.taken(flat), out)
     }
@@ -131,20 +50,15 @@ impl Subject for Exactly {
         state: &mut [u64],
         nodes: &mut [u64],
         statements: &mut [u64],
+        out: &mut [u64],
     ) -> u32 {
-        self.0.lift(self.taken(flat), state, nodes, statements)
+        let flat = self.taken(flat);
+        self.0.lift(flat, state, nodes, statements, out)
     }
 }
 
 fn compared(subject: &Echo) -> Report {
     classify::run(subject, 40_000, 3)
-}
-
-/// Differences are reported, and the first of them shows the fault.
-fn shown(report: &Report, fault: &str) {
-    let first = report.first.as_deref().expect("a difference is reported");
-    assert!(report.differences > 0 && !report.is_equal());
-    assert!(first.contains(fault), "{first}");
 }
 
 #[test]
@@ -232,8 +146,8 @@ fn a_word_written_beyond_the_answer_is_reported() {
 #[test]
 fn words_that_are_not_told_beside_a_refusal_are_reported() {
     let miswrite = |number: u32, out: &mut [u64]| {
-        if number == plain::TOO_SHORT && out.first() == Some(&0) {
-            out[1] = 1;
+        if let (plain::TOO_SHORT, [0, next, ..]) = (number, out) {
+            *next = 1;
         }
     };
     let subject = Echo {
@@ -415,6 +329,10 @@ impl Subject for Scribbler {
         Echo::default().classify(flat, out)
     }
 
+    fn why(&self, flat: &[u8], out: &mut [u64]) -> u32 {
+        Echo::default().why(flat, out)
+    }
+
     fn effect(&self, flat: &[u8], out: &mut [u64]) -> u32 {
         Echo::default().effect(flat, out)
     }
@@ -429,8 +347,9 @@ impl Subject for Scribbler {
         state: &mut [u64],
         nodes: &mut [u64],
         statements: &mut [u64],
+        out: &mut [u64],
     ) -> u32 {
-        let number = Echo::default().lift(flat, state, nodes, statements);
+        let number = Echo::default().lift(flat, state, nodes, statements, out);
         if let Some(word) = nodes.get_mut(self.0) {
             *word ^= 1;
         }

@@ -392,6 +392,10 @@ impl Subject for FaultyRecords {
         Library.classify(flat, out)
     }
 
+    fn why(&self, flat: &[u8], out: &mut [u64]) -> u32 {
+        Library.why(flat, out)
+    }
+
     fn effect(&self, flat: &[u8], out: &mut [u64]) -> u32 {
         Library.effect(flat, out)
     }
@@ -406,8 +410,9 @@ impl Subject for FaultyRecords {
         state: &mut [u64],
         nodes: &mut [u64],
         statements: &mut [u64],
+        out: &mut [u64],
     ) -> u32 {
-        Library.lift(flat, state, nodes, statements)
+        Library.lift(flat, state, nodes, statements, out)
     }
 }
 
@@ -424,6 +429,14 @@ impl RecordLifter for FaultyRecords {
         let number = Library.lift_record(input, at, state, nodes, statements, out);
         (self.0)(number, at, state, out);
         number
+    }
+}
+
+/// Each of these faults in the call on a record is reported.
+fn records_reported(faults: &[Mistell]) {
+    for &fault in faults {
+        let report = record_lifts::run(&FaultyRecords(fault), 20_000, 3);
+        shown(&report, "lift_record at ");
     }
 }
 
@@ -461,10 +474,38 @@ fn wrong_places_and_states_of_a_lifted_record_are_reported() {
             }
         },
     ];
-    for fault in faults {
-        let report = record_lifts::run(&FaultyRecords(fault), 20_000, 3);
-        shown(&report, "lift_record at ");
-    }
+    records_reported(&faults);
+}
+
+#[test]
+fn wrong_details_of_a_lifted_record_are_reported() {
+    let faults: [Mistell; 4] = [
+        // A decline has no detail.
+        |number, _, _, out| {
+            if number == 1 {
+                out[2] = 0;
+            }
+        },
+        // An overflow has one.
+        |number, _, _, out| {
+            if number == 2 {
+                out[2] = 21;
+            }
+        },
+        // A refusal of the reader has one.
+        |number, _, _, out| {
+            if number == 12 {
+                out[2] = 21;
+            }
+        },
+        // A word beyond the detail is written.
+        |_, _, _, out| {
+            if let Some(word) = out.get_mut(3) {
+                *word = 0;
+            }
+        },
+    ];
+    records_reported(&faults);
 }
 
 #[test]

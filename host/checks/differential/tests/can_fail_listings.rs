@@ -103,6 +103,35 @@ fn faults_in_the_listing_are_reported() {
     }
 }
 
+/// The listing with other last fields of its declines with this answer.
+fn with_details(text: &str, answer: &str, other: impl Fn(&str) -> String) -> String {
+    changed(text, 's', |line| {
+        let mut words: Vec<&str> = line.split(' ').collect();
+        let other = other(words[5]);
+        if (words[2], words[3]) == ("6", answer) {
+            words[5] = &other;
+        }
+        words.join(" ")
+    })
+}
+
+#[test]
+fn faults_in_the_details_are_reported() {
+    let faults: [OfListing; 4] = [
+        // No decline has a detail.
+        |text| with_details(&text, "1", |_| "0".to_owned()),
+        // An overflow has one.
+        |text| with_details(&text, "2", |_| "21".to_owned()),
+        // A wrong kind is a wrong number of operands.
+        |text| with_details(&text, "1", |detail| detail.replace("23", "22")),
+        // A width that is not taken is an address that is not known.
+        |text| with_details(&text, "1", |detail| detail.replace("25", "24")),
+    ];
+    for (number, fault) in faults.into_iter().enumerate() {
+        assert!(of_listing(fault) > 0, "fault {number}");
+    }
+}
+
 #[test]
 fn faults_in_the_reading_are_reported() {
     let faults: [OfInput; 5] = [

@@ -48,7 +48,7 @@ fn p6_faddp_from_nothing() {
 #[test]
 fn p7_fld_of_the_last_place() {
     let copied = lift(&FRESH, "fld", &[place("st(7)")]);
-    assert_eq!(copied.answer, 2);
+    assert_eq!((copied.answer, copied.detail), (2, 0));
     assert_eq!(copied.nodes.len(), 8);
     assert_eq!((copied.state[DEPTH], copied.state[INPUTS]), (0, 8));
     assert_eq!(copied.statements, [[6, 2, 16, 0]]);
@@ -56,7 +56,9 @@ fn p7_fld_of_the_last_place() {
 
 #[test]
 fn p8_p9_fist_and_fistp_at_64() {
-    assert_eq!(lift(&FRESH, "fist", &[memory(64)]).answer, 1);
+    let declined = lift(&FRESH, "fist", &[memory(64)]);
+    assert_eq!((declined.answer, declined.detail), (1, 25));
+    assert_eq!(declined.statements, [[6, 1, 16, 25]]);
     assert_eq!(lift(&FRESH, "fistp", &[memory(64)]).answer, 0);
 }
 

@@ -9,6 +9,7 @@ use differential::{
     NO_ORACLE, checks, classify, images, left_out, lift, oracle, processor, record_lifts, records,
     stored, values,
 };
+use plain::Instruction;
 use sleetgate_sys::untested;
 
 fn equal(report: &Report) {
@@ -16,14 +17,20 @@ fn equal(report: &Report) {
     assert!(report.is_equal(), "{report}");
 }
 
+/// Equal, and each detail was expected often.
+fn equal_with_details(report: &Report) {
+    equal(report);
+    assert!(report.details.iter().all(|&count| count > 30), "{report}");
+}
+
 #[test]
-fn classify_and_effect_answer_as_the_rust() {
+fn classify_why_and_effect_answer_as_the_rust() {
     assert!(sleetgate_sys::at_hand(), "{}", sleetgate_sys::MISSING);
     if !oracle::at_hand() {
         left_out(NO_ORACLE);
         return;
     }
-    equal(&classify::run(&Library, 200_000, 2));
+    equal_with_details(&classify::run(&Library, 200_000, 2));
 }
 
 #[test]
@@ -45,13 +52,13 @@ fn lift_answers_as_the_rust() {
         left_out(NO_ORACLE);
         return;
     }
-    equal(&lift::run(&Library, 2_000, 2));
+    equal_with_details(&lift::run(&Library, 2_000, 2));
 }
 
 #[test]
 fn a_record_is_lifted_as_by_two_calls() {
     assert!(sleetgate_sys::at_hand(), "{}", sleetgate_sys::MISSING);
-    equal(&record_lifts::run(&Library, 100_000, 2));
+    equal_with_details(&record_lifts::run(&Library, 100_000, 2));
 }
 
 #[test]
@@ -108,7 +115,7 @@ fn the_binding_of_formulas_tests_lengths_first() {
     assert_eq!(sleetgate_sys::evaluate(&[], 0, &[], &mut out, &mut []), 10);
     let (state, told) = out.split_at_mut(13);
     assert_eq!(
-        sleetgate_sys::lift_record(&[], 0, state, &mut [], &mut [], &mut told[..1]),
+        sleetgate_sys::lift_record(&[], 0, state, &mut [], &mut [], &mut told[..2]),
         10
     );
     assert_eq!((out, image), ([7; 16], [7; 10]));
@@ -132,73 +139,105 @@ fn the_binding_calls_the_library() {
     let mut state = [0; 13];
     let number =
         sleetgate_sys::lift_record(&[0x87, 0x45], 0, &mut state, &mut [], &mut [], &mut out);
-    assert_eq!((number, &out[..2], state), (0, [2, 0].as_slice(), [0; 13]));
+    assert_eq!(
+        (number, &out[..3], state),
+        (0, [2, 0, 0].as_slice(), [0; 13])
+    );
+    let fprem = Instruction::new(9, b"fprem", &[]).to_flat();
+    assert_eq!((sleetgate_sys::why(&fprem, &mut out), out[0]), (1, 21));
+    let (mut statements, mut detail) = ([7; 4], [7; 2]);
+    let number = sleetgate_sys::lift(&fprem, &mut state, &mut [], &mut statements, &mut detail);
+    assert_eq!((number, statements, detail), (1, [6, 1, 9, 21], [21, 7]));
 }
 
 #[test]
 fn the_binding_tests_lengths_first() {
     let mut out = [7; 16];
     assert_eq!(sleetgate_sys::classify(&[0; 177], &mut out[..7]), 10);
+    assert_eq!(sleetgate_sys::why(&[0; 177], &mut []), 10);
     assert_eq!(sleetgate_sys::effect(&[0; 177], &mut out[..6]), 10);
     let mut flat = [7; 177];
     assert_eq!(
         sleetgate_sys::read_record(&[], 0, &mut flat, &mut out[..1]),
         10
     );
-    assert_eq!(
-        sleetgate_sys::lift(&[0; 176], &mut out, &mut [], &mut []),
-        10
-    );
-    assert_eq!(
-        sleetgate_sys::lift(&flat, &mut out[..12], &mut [], &mut []),
-        10
-    );
-    assert_eq!((out, flat), ([7; 16], [7; 177]));
+    let mut lift = |flat: &[u8], words: usize, told: &mut [u64]| {
+        sleetgate_sys::lift(flat, &mut out[..words], &mut [], &mut [], told)
+    };
+    let mut told = [7; 3];
+    assert_eq!(lift(&flat, 16, &mut []), 10);
+    assert_eq!(lift(&flat[..176], 16, &mut told[..1]), 10);
+    assert_eq!(lift(&flat, 12, &mut told[1..2]), 10);
+    assert_eq!((out, flat, told), ([7; 16], [7; 177], [0, 0, 7]));
 }
 
 /// A call that is lent words to tell.
 type Call = fn(&mut [u64]) -> u32;
 
+/// How many words each call tells, and the call with another slice too
+/// short, by the binding and by the library.
+const TOO_SHORT: [(usize, [Call; 2]); 8] = [
+    (
+        8,
+        [
+            |out| sleetgate_sys::classify(&[0; 176], out),
+            |out| untested::classify(&[0; 176], out),
+        ],
+    ),
+    (
+        1,
+        [
+            |out| sleetgate_sys::why(&[0; 176], out),
+            |out| untested::why(&[0; 176], out),
+        ],
+    ),
+    (
+        7,
+        [
+            |out| sleetgate_sys::effect(&[0; 176], out),
+            |out| untested::effect(&[0; 176], out),
+        ],
+    ),
+    (
+        2,
+        [
+            |out| sleetgate_sys::read_record(&[], 0, &mut [0; 176], out),
+            |out| untested::read_record(&[], 0, &mut [0; 176], out),
+        ],
+    ),
+    (
+        1,
+        [
+            |out| sleetgate_sys::lift(&[0; 176], &mut [0; 13], &mut [], &mut [], out),
+            |out| untested::lift(&[0; 176], &mut [0; 13], &mut [], &mut [], out),
+        ],
+    ),
+    (
+        1,
+        [
+            |out| sleetgate_sys::lift(&[0; 177], &mut [0; 12], &mut [], &mut [], out),
+            |out| untested::lift(&[0; 177], &mut [0; 12], &mut [], &mut [], out),
+        ],
+    ),
+    (
+        3,
+        [
+            |out| sleetgate_sys::lift_record(&[], 0, &mut [0; 12], &mut [], &mut [], out),
+            |out| untested::lift_record(&[], 0, &mut [0; 12], &mut [], &mut [], out),
+        ],
+    ),
+    (
+        2,
+        [
+            |out| sleetgate_sys::image_read(&[0; 9], 0, 0, out),
+            |out| untested::image_read(&[0; 9], 0, 0, out),
+        ],
+    ),
+];
+
 #[test]
 fn zeros_are_told_beside_10() {
-    let calls: [(usize, [Call; 2]); 5] = [
-        (
-            8,
-            [
-                |out| sleetgate_sys::classify(&[0; 176], out),
-                |out| untested::classify(&[0; 176], out),
-            ],
-        ),
-        (
-            7,
-            [
-                |out| sleetgate_sys::effect(&[0; 176], out),
-                |out| untested::effect(&[0; 176], out),
-            ],
-        ),
-        (
-            2,
-            [
-                |out| sleetgate_sys::read_record(&[], 0, &mut [0; 176], out),
-                |out| untested::read_record(&[], 0, &mut [0; 176], out),
-            ],
-        ),
-        (
-            2,
-            [
-                |out| sleetgate_sys::lift_record(&[], 0, &mut [0; 12], &mut [], &mut [], out),
-                |out| untested::lift_record(&[], 0, &mut [0; 12], &mut [], &mut [], out),
-            ],
-        ),
-        (
-            2,
-            [
-                |out| sleetgate_sys::image_read(&[0; 9], 0, 0, out),
-                |out| untested::image_read(&[0; 9], 0, 0, out),
-            ],
-        ),
-    ];
-    for (words, both) in calls {
+    for (words, both) in TOO_SHORT {
         for call in both {
             let mut out = [7; 16];
             assert_eq!(call(&mut out[..words - 1]), 10);

@@ -51,7 +51,8 @@ impl Lifted {
             let depth = usize::try_from(lift.state[DEPTH]).expect("at most 8");
             let flat = profile.next(grid, rng, depth).to_flat();
             let lists = (&mut lift.nodes, &mut lift.statements);
-            sleetgate_sys::lift(&flat, &mut lift.state, lists.0, lists.1);
+            let detail = &mut [0; sleetgate_sys::DETAIL];
+            sleetgate_sys::lift(&flat, &mut lift.state, lists.0, lists.1, detail);
         }
         lift
     }

@@ -2,6 +2,7 @@
 //! against the plain reader and the Rust in a smaller fixed part of the
 //! full run. Where the program is not built, each test says so.
 
+use std::collections::BTreeSet;
 use std::fs;
 use std::path::{Path, PathBuf};
 
@@ -112,6 +113,21 @@ fn stored_inputs_end_in_every_way() {
 }
 
 #[test]
+fn stored_listings_have_every_detail() {
+    let cases = cases();
+    let lines = cases.iter().flat_map(|case| case.listing.lines());
+    let rows = lines.filter_map(|line| line.strip_prefix("s "));
+    let rows = rows.map(|row| row.split(' ').map(|n| n.parse().expect("a number")));
+    let rows: Vec<Vec<u64>> = rows.map(Iterator::collect).collect();
+    let of_answer = |answer: u64| {
+        let declines = rows.iter().filter(|row| row[1..3] == [6, answer]);
+        declines.map(|row| row[4]).collect::<BTreeSet<u64>>()
+    };
+    assert_eq!(of_answer(1), plain::DETAILS.map(u64::from).into());
+    assert_eq!(of_answer(2), [0].into());
+}
+
+#[test]
 fn a_changed_listing_is_another() {
     for mut case in cases() {
         let listing = case.listing.clone();
@@ -161,6 +177,7 @@ fn the_program_lists_as_the_manual_and_the_rust() {
     for number in [0, 3, 4, 6, 7, 11, 12, 13] {
         assert!(report.numbers[number] > 20, "{number}: {report}");
     }
+    assert!(report.details.iter().all(|&count| count > 20), "{report}");
 }
 
 /// With an argument the program reads nothing: it says its version, which

@@ -92,16 +92,22 @@ fn the_library_gives_the_stored_answers_on_formulas() {
     equal_with(&images, &[0, 9]);
 }
 
+/// Equal, and each detail is among the stored ones.
+fn equal_with_details(report: &Report) {
+    equal(report);
+    assert!(report.details.iter().all(|&count| count >= 20), "{report}");
+}
+
 #[test]
 fn the_library_gives_the_stored_answers() {
     assert!(sleetgate_sys::at_hand(), "{}", sleetgate_sys::MISSING);
     if let Some(found) = file("instructions.bin") {
-        equal(&stored::instructions(&Library, &found));
+        equal_with_details(&stored::instructions(&Library, &found));
     }
     if let Some(found) = file("records.bin") {
         equal(&stored::records(&Library, &found));
     }
     if let Some(found) = file("lifts.bin") {
-        equal(&stored::lifts(&Library, &found));
+        equal_with_details(&stored::lifts(&Library, &found));
     }
 }

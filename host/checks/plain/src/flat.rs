@@ -46,6 +46,17 @@ impl Text {
     pub fn used(&self) -> &[u8] {
         &self.bytes[..usize::from(self.len).min(TEXT)]
     }
+
+    /// The text as it is read: without the blanks at its two ends, bytes 9
+    /// to 13 and 32, and in small letters.
+    #[must_use]
+    pub fn as_read(&self) -> Vec<u8> {
+        let blank = |byte: &u8| matches!(byte, 9..=13 | 32);
+        let text = self.used();
+        let from = text.iter().take_while(|b| blank(b)).count();
+        let behind = text[from..].iter().rev().take_while(|b| blank(b)).count();
+        text[from..text.len() - behind].to_ascii_lowercase()
+    }
 }
 
 impl fmt::Debug for Text {
@@ -202,7 +213,15 @@ fn part<const N: usize>(flat: &[u8], at: usize) -> [u8; N] {
 
 #[cfg(test)]
 mod tests {
-    use super::{FLAT, Instruction, Operand};
+    use super::{FLAT, Instruction, Operand, Text};
+
+    #[test]
+    fn a_text_is_read_without_blanks_and_case() {
+        let read = |text: &[u8]| Text::new(text).as_read();
+        assert_eq!(read(b" \t\n\x0b\x0c\rF lD\r "), b"f ld");
+        assert_eq!(read(b"\x08fld\x0e"), b"\x08fld\x0e");
+        assert_eq!([read(b""), read(b" \t ")], [b"", b""]);
+    }
 
     #[test]
     fn bytes_and_instruction_are_one_to_one() {

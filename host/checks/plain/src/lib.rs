@@ -1,8 +1,8 @@
 //! The rules of the manual (`docs/MANUAL.md`) said plainly in Rust: what
 //! an instruction is and how it lies in bytes, which instructions are
-//! refused, how records are read, which states are valid, which nodes have
-//! a sort, which given values fit, and what an 80-bit image holds. Written
-//! for being read, not for speed.
+//! refused, why one is declined, how records are read, which states are
+//! valid, which nodes have a sort, which given values fit, and what an
+//! 80-bit image holds. Written for being read, not for speed.
 
 mod flat;
 pub mod image;
@@ -11,10 +11,12 @@ mod refusals;
 pub mod sorts;
 pub mod state;
 pub mod values;
+mod why;
 
 pub use flat::{FLAT, Instruction, OPERANDS, Operand, TEXT, Text};
 pub use reader::{Outcome, read, record};
 pub use refusals::refusal;
+pub use why::why;
 
 /// Kinds of an operand.
 pub const REGISTER: u8 = 0;
@@ -36,3 +38,19 @@ pub const TOO_SHORT: u32 = 10;
 pub const WRONG_MARK: u32 = 11;
 pub const ENDS_EARLY: u32 = 12;
 pub const INPUT_TOO_LONG: u32 = 13;
+
+/// Details of a decline, in the order in which they are tested.
+pub const UNKNOWN_NAME: u32 = 21;
+pub const WRONG_COUNT: u32 = 22;
+pub const WRONG_KIND: u32 = 23;
+pub const UNKNOWN_ADDRESS: u32 = 24;
+pub const WRONG_WIDTH: u32 = 25;
+
+/// All details.
+pub const DETAILS: [u32; 5] = [
+    UNKNOWN_NAME,
+    WRONG_COUNT,
+    WRONG_KIND,
+    UNKNOWN_ADDRESS,
+    WRONG_WIDTH,
+];

@@ -24,7 +24,7 @@ const fn case(text: &'static str, words: &'static str, shown: &'static str) -> C
 }
 
 /// All cases.
-pub const CASES: [Case; 21] = [
+pub const CASES: [Case; 22] = [
     case("truncation.objdump", "--path", "truncation"),
     case("integer-flags.objdump", "--path", "integer-flags"),
     case("loop.objdump", "--path", "loop"),
@@ -62,6 +62,7 @@ pub const CASES: [Case; 21] = [
         "windows",
     ),
     case("control-words.objdump", "", "control-words"),
+    case("declined.lines", "--path", "declined"),
 ];
 
 /// Where a file of the cases is.

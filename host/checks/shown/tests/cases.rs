@@ -55,9 +55,13 @@ fn another_code_is_shown_otherwise() {
         ("tail-call", "jmp    b <tail+0xb>", "ret"),
         ("moving-esp", "sub    esp,0x24", "sub    esp,0x20"),
         ("returned", "fmul   QWORD", "fdiv   QWORD"),
+        ("declined", "fist QWORD", "fistp QWORD"),
+        ("declined", "fld [edx]", "fild [edx]"),
+        ("declined", "fnstsw eax", "fnstsw ebx"),
+        ("declined", "fxch st,st(1)", "fxch st,st(1),st(2)"),
     ];
     for (shown, from, to) in edits {
-        let path = case(shown).stored().with_extension("objdump");
+        let path = case(shown).stored().with_file_name(case(shown).text);
         let text = fs::read_to_string(path).expect("the text is there");
         let other = text.replace(from, to);
         assert_ne!(text, other, "{shown}");
@@ -223,6 +227,36 @@ fn a_windows_word_rounds_sums_to_53_bits() {
     assert!(sum.contains("rounded to 53 bits"), "{sum}");
     assert!(!stored("windows").contains(" + "), "no sum is shown");
     assert_eq!(lines_at("control-words", "55"), ["[esp0+0xc] := f32(s6)"]);
+}
+
+/// A decline is said in words that tell what the name takes instead, as
+/// far as that is simple.
+#[test]
+fn a_decline_says_why() {
+    let why = [
+        ("1004", "the lifter does not know the name fprem"),
+        ("1006", "it has 2 operands, and its name takes 0 or 1"),
+        ("100c", "its name does not take st(8)"),
+        ("1010", "its name does not take st(1) as operand 1"),
+        ("1012", "its name does not take memory as operand 2"),
+        ("1018", "the address of its memory operand is not known"),
+        (
+            "1022",
+            "its memory operand has 64 bits, and its name takes 16 or 32",
+        ),
+        (
+            "1028",
+            "the width of its memory operand is not known, and its name takes 32, 64 or 80 bits",
+        ),
+    ];
+    for (address, words) in why {
+        let [line] = &lines_at("declined", address)[..] else {
+            panic!("one line at {address}");
+        };
+        let (_, said) = line.split_once(": ").expect("words behind the text");
+        let said = said.split(": the stack is forgotten here").next();
+        assert_eq!(said, Some(words), "{address}");
+    }
 }
 
 /// What is shown of some plain lines.

@@ -17,6 +17,10 @@ pub const FORM: usize = 8;
 pub const EFFECT: usize = 7;
 /// Words that reading a record gives beside the instruction.
 pub const READ: usize = 2;
+/// Words that name the detail of a decline.
+pub const DETAIL: usize = 1;
+/// Words that lifting a record gives.
+pub const STEP: usize = 3;
 /// Words of a state.
 pub const STATE: usize = 13;
 /// Bytes of an 80-bit image.
@@ -73,6 +77,16 @@ pub fn classify(flat: &[u8], out: &mut [u64]) -> u32 {
     untested::classify(flat, out)
 }
 
+/// Why the instruction in the first 177 bytes is declined: the answer is
+/// that of [`classify`], and the first word of `out` becomes the detail, 21
+/// to 25 beside 1 and else 0; words beyond stay.
+pub fn why(flat: &[u8], out: &mut [u64]) -> u32 {
+    if flat.len() < FLAT || out.len() < DETAIL {
+        return too_short(out, DETAIL);
+    }
+    untested::why(flat, out)
+}
+
 /// The effect of the instruction in the first 177 bytes. The first seven
 /// words of `out` become 0 or 1; words beyond stay.
 pub fn effect(flat: &[u8], out: &mut [u64]) -> u32 {
@@ -94,19 +108,26 @@ pub fn read_record(input: &[u8], at: usize, flat: &mut [u8], out: &mut [u64]) ->
 
 /// Lift the instruction in the first 177 bytes. The first 13 words of
 /// `state` become the next state: eight slots, depth, nodes, statements, inputs,
-/// temporaries. The lists are rows of four words.
-pub fn lift(flat: &[u8], state: &mut [u64], nodes: &mut [u64], statements: &mut [u64]) -> u32 {
-    if flat.len() < FLAT || state.len() < STATE {
-        return TOO_SHORT;
+/// temporaries. The lists are rows of four words. The first word of `out`
+/// becomes the detail of a decline, 21 to 25 beside 1 and else 0.
+pub fn lift(
+    flat: &[u8],
+    state: &mut [u64],
+    nodes: &mut [u64],
+    statements: &mut [u64],
+    out: &mut [u64],
+) -> u32 {
+    if flat.len() < FLAT || state.len() < STATE || out.len() < DETAIL {
+        return too_short(out, DETAIL);
     }
-    untested::lift(flat, state, nodes, statements)
+    untested::lift(flat, state, nodes, statements, out)
 }
 
 /// Read one record of `input` at `at` and lift it, as [`read_record`] and
 /// [`lift`] do. The first two words of `out` become the next place and 1,
 /// or the offending place (the record's own for a refusal of the lifter)
 /// and 0; at the end mark nothing is lifted, and they become the place
-/// after it and 0.
+/// after it and 0. The third word becomes the detail, as in [`lift`].
 pub fn lift_record(
     input: &[u8],
     at: usize,
@@ -115,8 +136,8 @@ pub fn lift_record(
     statements: &mut [u64],
     out: &mut [u64],
 ) -> u32 {
-    if state.len() < STATE || out.len() < READ {
-        return too_short(out, READ);
+    if state.len() < STATE || out.len() < STEP {
+        return too_short(out, STEP);
     }
     untested::lift_record(input, at, state, nodes, statements, out)
 }

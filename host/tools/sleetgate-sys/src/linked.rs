@@ -3,6 +3,8 @@
 unsafe extern "C" {
     fn x87_classify(flat: *const u8, flat_len: usize, out: *mut u64, out_len: usize) -> u32;
 
+    fn x87_why(flat: *const u8, flat_len: usize, out: *mut u64, out_len: usize) -> u32;
+
     fn x87_effect(flat: *const u8, flat_len: usize, out: *mut u64, out_len: usize) -> u32;
 
     fn x87_read_record(
@@ -25,6 +27,8 @@ unsafe extern "C" {
         nodes_len: usize,
         statements: *mut u64,
         statements_len: usize,
+        out: *mut u64,
+        out_len: usize,
     ) -> u32;
 
     fn x87_lift_record(
@@ -80,6 +84,12 @@ pub fn classify(flat: &[u8], out: &mut [u64]) -> u32 {
     unsafe { x87_classify(flat.as_ptr(), flat.len(), out.as_mut_ptr(), out.len()) }
 }
 
+/// As [`crate::why`], on any lengths.
+pub fn why(flat: &[u8], out: &mut [u64]) -> u32 {
+    // SAFETY: as in `classify`.
+    unsafe { x87_why(flat.as_ptr(), flat.len(), out.as_mut_ptr(), out.len()) }
+}
+
 /// As [`crate::effect`], on any lengths.
 pub fn effect(flat: &[u8], out: &mut [u64]) -> u32 {
     // SAFETY: as in `classify`.
@@ -104,7 +114,13 @@ pub fn read_record(input: &[u8], at: usize, flat: &mut [u8], out: &mut [u64]) ->
 
 /// As [`crate::lift`], on any lengths.
 #[cfg(not(no_lift))]
-pub fn lift(flat: &[u8], state: &mut [u64], nodes: &mut [u64], statements: &mut [u64]) -> u32 {
+pub fn lift(
+    flat: &[u8],
+    state: &mut [u64],
+    nodes: &mut [u64],
+    statements: &mut [u64],
+    out: &mut [u64],
+) -> u32 {
     // SAFETY: as in `classify`.
     unsafe {
         x87_lift(
@@ -116,13 +132,15 @@ pub fn lift(flat: &[u8], state: &mut [u64], nodes: &mut [u64], statements: &mut 
             nodes.len(),
             statements.as_mut_ptr(),
             statements.len(),
+            out.as_mut_ptr(),
+            out.len(),
         )
     }
 }
 
 /// As [`crate::lift`], where the library has no lifter.
 #[cfg(no_lift)]
-pub fn lift(_: &[u8], _: &mut [u64], _: &mut [u64], _: &mut [u64]) -> u32 {
+pub fn lift(_: &[u8], _: &mut [u64], _: &mut [u64], _: &mut [u64], _: &mut [u64]) -> u32 {
     panic!("{}", crate::MISSING_LIFT)
 }
 

@@ -7,6 +7,10 @@ pub fn classify(_: &[u8], _: &mut [u64]) -> u32 {
     panic!("{MISSING}")
 }
 
+pub fn why(_: &[u8], _: &mut [u64]) -> u32 {
+    panic!("{MISSING}")
+}
+
 pub fn effect(_: &[u8], _: &mut [u64]) -> u32 {
     panic!("{MISSING}")
 }
@@ -15,7 +19,7 @@ pub fn read_record(_: &[u8], _: usize, _: &mut [u8], _: &mut [u64]) -> u32 {
     panic!("{MISSING}")
 }
 
-pub fn lift(_: &[u8], _: &mut [u64], _: &mut [u64], _: &mut [u64]) -> u32 {
+pub fn lift(_: &[u8], _: &mut [u64], _: &mut [u64], _: &mut [u64], _: &mut [u64]) -> u32 {
     panic!("{MISSING}")
 }
 

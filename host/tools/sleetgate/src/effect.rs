@@ -26,7 +26,7 @@ pub struct Effect {
 }
 
 /// What an instruction touches; `None` where the lifter does not model
-/// it.
+/// it, and [`why`](crate::why()) tells why.
 ///
 /// ```
 /// use sleetgate::{Instruction, Operand, effect};

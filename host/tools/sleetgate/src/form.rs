@@ -141,7 +141,8 @@ pub enum Unary {
     RoundToIntegral,
 }
 
-/// The form of an instruction; `None` where the lifter does not model it.
+/// The form of an instruction; `None` where the lifter does not model it,
+/// and [`why`](crate::why()) tells why.
 ///
 /// ```
 /// use sleetgate::{Arith, Form, Instruction, Operand, Source, classify};

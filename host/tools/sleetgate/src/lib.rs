@@ -17,7 +17,8 @@
 //!   The [`State`] says which node stands at each known place of the stack
 //!   (section 3).
 //! - An instruction that is not modelled is declined: a statement says
-//!   [`Why`], and the stack is forgotten.
+//!   [`Why`], and the stack is forgotten. [`why`] says beforehand which
+//!   [`Detail`] of its form is not modelled.
 //! - A node has a [`Sort`]: bits of a width, or a float. [`check`] finds
 //!   the first node that has none (section 5); [`evaluate`] gives values,
 //!   and [`image`] reads and writes the ten bytes of an 80-bit float in
@@ -67,15 +68,17 @@ mod refusal;
 mod rows;
 mod sort;
 mod statement;
+mod why;
 
 pub use effect::{Effect, effect};
 pub use form::{Arith, Condition, Form, MemFormat, Source, Unary, classify};
 pub use formulas::{check, evaluate};
 pub use instruction::{Instruction, MOST_OPERANDS, Operand, Place, TEXT};
-pub use lifter::{Lifted, Lifter, State, Why};
+pub use lifter::{Lifted, Lifter, State};
 pub use node::{Flag, Format, Node, Nodes, Rounding};
 pub use record::{Item, MOST_BYTES, read_record, write_end, write_record};
 pub use refusal::{Refusal, RefusedRecord};
 pub use rows::Iter;
 pub use sort::Sort;
 pub use statement::{Statement, Statements};
+pub use why::{Detail, Why, why};

@@ -1,12 +1,10 @@
 //! The lifter.
 
-use std::fmt;
-
-use sleetgate_sys::{READ, STATE};
+use sleetgate_sys::{DETAIL, STATE, STEP};
 
 use crate::record::place;
 use crate::rows::ROW;
-use crate::{Instruction, Nodes, Refusal, RefusedRecord, Statements};
+use crate::{Instruction, Nodes, Refusal, RefusedRecord, Statements, Why};
 
 /// The largest room of a list.
 const MOST_ROWS: usize = 65_535;
@@ -31,62 +29,6 @@ pub enum Lifted {
     /// It is not modelled: a statement says so, and the stack is
     /// forgotten, so that no stale value is carried on.
     Declined(Why),
-}
-
-/// Why an instruction was declined.
-///
-/// ```
-/// use sleetgate::{Instruction, Lifter, Statement, Why};
-///
-/// let mut lifter = Lifter::default();
-/// lifter.lift(&Instruction::new(0x10, "fsin", []))?;
-/// let Some(Statement::Unsupported { answer, .. }) = lifter.statements().get(0) else { panic!() };
-/// assert_eq!((answer, answer.number()), (Why::Form, 1));
-/// assert_eq!(answer.to_string(), "not modelled");
-/// # Ok::<(), sleetgate::Refusal>(())
-/// ```
-#[derive(Debug, Clone, Copy, PartialEq, Eq, Hash)]
-pub enum Why {
-    /// 1: its form is not modelled.
-    Form,
-    /// 2: it pushes onto a full stack.
-    Overflow,
-}
-
-impl Why {
-    /// The answer's number: 1 or 2, as in the row of a statement.
-    #[must_use]
-    pub fn number(self) -> u32 {
-        match self {
-            Self::Form => 1,
-            Self::Overflow => 2,
-        }
-    }
-
-    /// The answer of a number; `None` for any but 1 and 2.
-    ///
-    /// ```
-    /// # use sleetgate::Why;
-    /// assert_eq!((Why::of(2), Why::of(3)), (Some(Why::Overflow), None));
-    /// ```
-    #[must_use]
-    pub fn of(number: u32) -> Option<Self> {
-        match number {
-            1 => Some(Self::Form),
-            2 => Some(Self::Overflow),
-            _ => None,
-        }
-    }
-}
-
-/// `not modelled` or `pushes onto a full stack`.
-impl fmt::Display for Why {
-    fn fmt(&self, f: &mut fmt::Formatter<'_>) -> fmt::Result {
-        f.pad(match self {
-            Self::Form => "not modelled",
-            Self::Overflow => "pushes onto a full stack",
-        })
-    }
 }
 
 /// The state of a lift: the stack and the counts (manual, section 3).
@@ -164,11 +106,12 @@ impl Lifter {
     /// Lift one instruction.
     ///
     /// ```
-    /// use sleetgate::{Instruction, Lifted, Lifter, Why};
+    /// use sleetgate::{Detail, Instruction, Lifted, Lifter, Why};
     ///
     /// let mut lifter = Lifter::with_capacity(1_024, 256);
     /// assert_eq!(lifter.lift(&Instruction::new(0, "fld1", [])), Ok(Lifted::Modelled));
-    /// assert_eq!(lifter.lift(&Instruction::new(2, "fsin", [])), Ok(Lifted::Declined(Why::Form)));
+    /// let declined = Lifted::Declined(Why::Form(Detail::UnknownName));
+    /// assert_eq!(lifter.lift(&Instruction::new(2, "fsin", [])), Ok(declined));
     /// assert_eq!(lifter.stack(), []);
     /// ```
     ///
@@ -177,13 +120,18 @@ impl Lifter {
     /// [`Refusal::NodeRoom`], [`Refusal::StatementRoom`], in this order;
     /// nothing is changed then.
     pub fn lift(&mut self, insn: &Instruction) -> Result<Lifted, Refusal> {
+        let mut out = [0; DETAIL];
         let number = sleetgate_sys::lift(
             &insn.flat(),
             &mut self.state,
             &mut self.nodes,
             &mut self.statements,
+            &mut out,
         );
-        Refusal::told(number, 0).map_or(Ok(lifted(number)), Err)
+        match Refusal::told(number, 0) {
+            Some(refusal) => Err(refusal),
+            None => Ok(lifted(number, out[0])),
+        }
     }
 
     /// Read the record at `at` and lift its instruction. Gives the next
@@ -214,7 +162,7 @@ impl Lifter {
         input: &[u8],
         at: usize,
     ) -> Result<Option<(Lifted, usize)>, RefusedRecord> {
-        let mut out = [0; READ];
+        let mut out = [0; STEP];
         let number = sleetgate_sys::lift_record(
             input,
             at,
@@ -226,7 +174,7 @@ impl Lifter {
         let place = place(out[0]);
         match Refusal::told(number, 0) {
             Some(refusal) => Err(RefusedRecord { refusal, place }),
-            None => Ok((out[1] != 0).then(|| (lifted(number), place))),
+            None => Ok((out[1] != 0).then(|| (lifted(number, out[2]), place))),
         }
     }
 
@@ -248,11 +196,11 @@ impl Lifter {
     /// The statements so far.
     ///
     /// ```
-    /// use sleetgate::{Instruction, Lifter, Statement, Why};
+    /// use sleetgate::{Detail, Instruction, Lifter, Statement, Why};
     ///
     /// let mut lifter = Lifter::with_capacity(16, 16);
     /// lifter.lift(&Instruction::new(7, "fsin", []))?;
-    /// let declined = Statement::Unsupported { answer: Why::Form, address: 7 };
+    /// let declined = Statement::Unsupported { answer: Why::Form(Detail::UnknownName), address: 7 };
     /// assert_eq!(lifter.statements().get(0), Some(declined));
     /// # Ok::<(), sleetgate::Refusal>(())
     /// ```
@@ -327,9 +275,9 @@ impl Lifter {
     }
 }
 
-/// What the numbers 0 to 2 say.
-fn lifted(number: u32) -> Lifted {
-    Why::of(number).map_or(Lifted::Modelled, Lifted::Declined)
+/// What the numbers 0 to 2 say, with the detail beside them.
+fn lifted(number: u32, detail: u64) -> Lifted {
+    Why::told(number, detail).map_or(Lifted::Modelled, Lifted::Declined)
 }
 
 /// The words of the first rows of a list, as far as it goes.

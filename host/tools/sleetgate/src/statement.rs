@@ -1,7 +1,7 @@
 //! Statements.
 
 use crate::rows::Rows;
-use crate::{Flag, Iter, Why};
+use crate::{Detail, Flag, Iter, Why};
 
 /// A statement of a lift: what an instruction does beyond the register
 /// stack (manual, section 4). A list has them in the order of the
@@ -54,12 +54,14 @@ pub enum Statement {
 
 impl Statement {
     /// The statement of a row; `None` where there is no such kind, flag
-    /// or answer, or an unused field is not 0.
+    /// or answer with its detail, or an unused field is not 0.
     ///
     /// ```
-    /// # use sleetgate::Statement;
+    /// # use sleetgate::{Detail, Statement, Why};
     /// assert_eq!(Statement::of([3, 7, 0, 0]), Some(Statement::Status { node: 7 }));
     /// assert_eq!(Statement::of([3, 7, 0, 1]), None);
+    /// let declined = Statement::Unsupported { answer: Why::Form(Detail::Width), address: 7 };
+    /// assert_eq!(Statement::of([6, 1, 7, 25]), Some(declined));
     /// ```
     #[must_use]
     pub fn of(row: [u64; 4]) -> Option<Self> {
@@ -82,7 +84,7 @@ impl Statement {
             },
             5 => Self::Ax { node: a },
             6 => Self::Unsupported {
-                answer: Why::of(u32::try_from(a).ok()?)?,
+                answer: Why::of(u32::try_from(a).ok()?, c)?,
                 address: b,
             },
             _ => return None,
@@ -107,7 +109,10 @@ impl Statement {
             Self::Status { node } => [3, node, 0, 0],
             Self::Flag { flag, node } => [4, flag.number(), node, 0],
             Self::Ax { node } => [5, node, 0, 0],
-            Self::Unsupported { answer, address } => [6, answer.number().into(), address, 0],
+            Self::Unsupported { answer, address } => {
+                let detail = answer.detail().map_or(0, Detail::number);
+                [6, answer.number().into(), address, detail]
+            }
         }
     }
 }

@@ -4,8 +4,9 @@
 use std::collections::BTreeSet;
 
 use sleetgate::{
-    Form, Format, Instruction, Item, Lifted, Lifter, Node, Nodes, Operand, Place, Refusal, State,
-    Statement, Why, check, classify, effect, evaluate, image, read_record, write_record,
+    Detail, Form, Format, Instruction, Item, Lifted, Lifter, Node, Nodes, Operand, Place, Refusal,
+    State, Statement, Why, check, classify, effect, evaluate, image, read_record, why,
+    write_record,
 };
 
 fn insn(name: &str, operands: &[&str]) -> Instruction {
@@ -24,6 +25,7 @@ fn texts_and_counts_out_of_range_are_refused() {
         for long in [insn(&text, &[]), insn("fld", &[&text])] {
             assert_eq!(classify(&long), Err(Refusal::Text));
             assert_eq!(effect(&long), Err(Refusal::Text));
+            assert_eq!(why(&long), Err(Refusal::Text));
             assert_eq!(lifter.lift(&long), Err(Refusal::Text));
             assert_eq!(write_record(&long, &mut Vec::new()), Err(Refusal::Text));
         }
@@ -32,6 +34,7 @@ fn texts_and_counts_out_of_range_are_refused() {
         let many = insn("fld", &vec!["st(1)"; count]);
         assert_eq!(classify(&many), Err(Refusal::Shape));
         assert_eq!(effect(&many), Err(Refusal::Shape));
+        assert_eq!(why(&many), Err(Refusal::Shape));
         assert_eq!(lifter.lift(&many), Err(Refusal::Shape));
         assert_eq!(write_record(&many, &mut Vec::new()), Err(Refusal::Shape));
     }
@@ -94,7 +97,7 @@ fn every_kind_of_row_that_the_lifter_writes_is_a_node_or_a_statement() {
     lift("fstp", vec![memory(32, Place::Address(3))]);
     assert_eq!(
         lift("fld", vec![Operand::Other]),
-        Lifted::Declined(Why::Form)
+        Lifted::Declined(Why::Form(Detail::OperandKind))
     );
     let (nodes, statements) = (lifter.nodes(), lifter.statements());
     assert_eq!(nodes.iter().count(), nodes.len());
@@ -120,24 +123,6 @@ fn overflow_is_a_decline_of_its_own() {
         address: 0,
     };
     assert_eq!((last, lifter.stack()), (Some(expected), [].as_slice()));
-}
-
-#[test]
-fn an_answer_is_a_row_s_number_and_words() {
-    let rows = [
-        ([6, 1, 9, 0], Why::Form, "not modelled"),
-        ([6, 2, 9, 0], Why::Overflow, "pushes onto a full stack"),
-    ];
-    for (row, answer, text) in rows {
-        let declined = Statement::Unsupported { answer, address: 9 };
-        assert_eq!((Statement::of(row), declined.row()), (Some(declined), row));
-        assert_eq!(answer.to_string(), text);
-        assert_eq!(Why::of(answer.number()), Some(answer));
-    }
-    for answer in [0, 3, 1 << 32 | 1, u64::MAX] {
-        assert_eq!(Statement::of([6, answer, 9, 0]), None);
-    }
-    assert_eq!((Why::of(0), Why::of(3)), (None, None));
 }
 
 /// Lift an instruction until it is refused: how often, and why.

@@ -3,7 +3,7 @@
 use std::collections::{BTreeSet, HashMap};
 
 use notes::{Event, Notes, Record, What};
-use sleetgate::{Instruction, Operand, Place as Numbers, write_record};
+use sleetgate::{Instruction, MOST_OPERANDS, Operand, Place as Numbers, write_record};
 
 use crate::control::{Verdict, loaded, verdict};
 use crate::effects::{FLAG_COMPARES, FLAG_NAMES, is_x87, reads, reads_status, stores};
@@ -185,7 +185,8 @@ impl<'a> Work<'a> {
             (Some(place), None) => self.reloads |= self.stored.contains(&place),
             _ => {}
         }
-        let why = self.judge(&mut insn, code, machine);
+        let judged = self.judge(&mut insn, code, machine);
+        let why = judged.or_else(|| crowded(code));
         let record = Record {
             bytes: bytes(&insn),
             text: code.text(),
@@ -432,6 +433,14 @@ impl<'a> Work<'a> {
         }
         head
     }
+}
+
+/// Why an x87 instruction is handed over without its operands, where a
+/// record has no room for them.
+fn crowded(code: &Code) -> Option<String> {
+    let count = code.operands.len();
+    let crowded = is_x87(&code.name) && count > MOST_OPERANDS;
+    crowded.then(|| format!("it has {count} operands, and no name takes so many"))
 }
 
 /// The address number of a memory operand, 0 where it is not known.

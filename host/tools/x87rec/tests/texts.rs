@@ -2,7 +2,7 @@
 
 mod common;
 
-use common::{instructions, named, places, records, with};
+use common::{instructions, named, places, reasons, records, with};
 use sleetgate::{Item, Operand, Place, read_record};
 use x87rec::{Options, Wrong, passes, translate};
 
@@ -248,6 +248,13 @@ fn operands_have_their_kinds() {
         [Operand::memory(64, Place::Unknown)]
     );
     assert_eq!(operands("vblendvps a,b,c,d"), [Operand::Other]);
+}
+
+#[test]
+fn more_operands_than_a_record_holds_are_told() {
+    let told = records("0 fld a,b,c,d\n2 fld a,b,c\n4 vblendvps a,b,c,d\n");
+    let why = "0 it has 4 operands, and no name takes so many";
+    assert_eq!(reasons(&told), [why]);
 }
 
 #[test]

@@ -32,11 +32,28 @@
 //! has no formula: the processor stores the integer indefinite value, the
 //! lowest one, and SMT-LIB leaves it open.
 //!
+//! Where an instruction is declined, words say why; what its name takes is
+//! asked of the proved library:
+//!
+//! | detail | words |
+//! |---|---|
+//! | 21 | `the lifter does not know the name fprem` |
+//! | 22 | `it has 2 operands, and its name takes 0 or 1` |
+//! | 23 | `its name does not take eax`, `its name does not take memory as operand 2` |
+//! | 24 | `the address of its memory operand is not known` |
+//! | 25 | `its memory operand has 64 bits, and its name takes 16 or 32` |
+//!
+//! Where `x87rec` made the lifter decline it, for example because of the
+//! control word, its reason stands there instead. Without notes nothing is
+//! known of the instruction but its address, and the words are those of
+//! [`Detail`](sleetgate::Detail).
+//!
 //! A listing does not say which instruction made which node, nor what the
 //! stack was in between. So the records in the notes are lifted again by
 //! the proved library, and the listing is taken only if it is that lift.
 
 mod build;
+mod declined;
 mod listing;
 mod number;
 mod print;

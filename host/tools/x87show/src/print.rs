@@ -8,6 +8,7 @@ use notes::{Event, Notes, Record, What};
 use sleetgate::{Node, Refusal, Statement, Why};
 
 use crate::build::{Built, Read, build, flag_name};
+use crate::declined;
 use crate::listing::{Listing, named};
 use crate::terms::{Id, Term};
 use crate::trace::Span;
@@ -279,7 +280,7 @@ impl<'a> Page<'a> {
             self.input(node, span);
         }
         for &statement in &listing.statements[span.statements.clone()] {
-            self.statement(statement, Some(record));
+            self.statement(statement, Some((record, span)));
         }
         self.declined.remove(&span.address);
         if span.declined {
@@ -329,7 +330,8 @@ impl<'a> Page<'a> {
         self.words("what stands above holds up to here; nothing is known of what follows");
     }
 
-    fn statement(&mut self, statement: Statement, record: Option<&Record>) {
+    /// What a statement says; with notes, of its record and what that did.
+    fn statement(&mut self, statement: Statement, of: Option<(&Record, &Span)>) {
         let line = match statement {
             Statement::Load {
                 node,
@@ -348,23 +350,26 @@ impl<'a> Page<'a> {
                 format!("{} := {}", flag_name(flag), self.formula(node))
             }
             Statement::Ax { node } => format!("ax := {}", self.formula(node)),
-            Statement::Unsupported { answer, address } => self.declined(answer, address, record),
+            Statement::Unsupported { answer, address } => match of {
+                Some((record, span)) => self.declined(answer, record, span),
+                None => format!("-- {address:#x}: {answer}: the stack is forgotten here"),
+            },
         };
         self.line(&line);
     }
 
-    /// What is said of a decline.
-    fn declined(&self, answer: Why, address: u64, record: Option<&Record>) -> String {
-        let (begin, why) = match record {
-            None => (format!("{address:#x}: "), None),
-            Some(record) if record.text.is_empty() => (String::new(), record.why.as_ref()),
-            Some(record) => (format!("{}: ", record.text), record.why.as_ref()),
+    /// What is said of a decline: where `x87rec` made the lifter decline,
+    /// its reason.
+    fn declined(&self, answer: Why, record: &Record, span: &Span) -> String {
+        let begin = match record.text.as_str() {
+            "" => String::new(),
+            text => format!("{text}: "),
         };
-        let words = match (answer, why) {
-            (Why::Form, Some(why)) => why.clone(),
-            _ => answer.to_string(),
+        let words = match (answer, &record.why) {
+            (Why::Form(_), Some(why)) => why.clone(),
+            _ => declined::words(&span.insn, answer),
         };
-        let stored = match record.and_then(|record| record.writes) {
+        let stored = match record.writes {
             None => String::new(),
             Some(0) => ", and where and what it stores is not known".to_owned(),
             Some(number) => {

@@ -4,15 +4,17 @@
 use std::ops::Range;
 
 use notes::Notes;
-use sleetgate::{Item, Lifted, Lifter, Refusal, read_record};
+use sleetgate::{Instruction, Item, Lifted, Lifter, Refusal, read_record};
 
 use crate::Wrong;
 use crate::listing::{Listing, NODES, STATEMENTS};
 
 /// What a record did.
-#[derive(Debug, Clone, Default, PartialEq, Eq)]
+#[derive(Debug, Clone, PartialEq, Eq)]
 pub struct Span {
     pub address: u64,
+    /// The record's instruction.
+    pub insn: Instruction,
     pub nodes: Range<usize>,
     pub statements: Range<usize>,
     /// The stack behind it, the top first.
@@ -79,5 +81,6 @@ fn span(lifter: &mut Lifter, address: u64, bytes: &[u8]) -> Result<Result<Span, 
         stack: lifter.stack().to_vec(),
         declined: lifted != Lifted::Modelled,
         loads_image: insn.mnemonic == "fld" && insn.operands.iter().any(image),
+        insn,
     }))
 }

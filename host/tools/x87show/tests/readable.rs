@@ -1,6 +1,7 @@
 //! Listings and their readable texts.
 
-use sleetgate::{Instruction, Lifter, Operand, Place};
+use notes::{Event, Notes, Record, What};
+use sleetgate::{Instruction, Lifter, Operand, Place, write_record};
 use x87show::{Wrong, show};
 
 /// The listing of some instructions, as the program prints it.
@@ -22,25 +23,35 @@ fn listing(lifter: &Lifter, refused: &str) -> String {
     text + "\n" + refused
 }
 
+/// A register, memory as `WIDTH@ADDRESS`, where `?` is an address that is
+/// not known, or `?` for anything else.
 fn operand(text: &str) -> Operand {
     match text.split_once('@') {
         Some((width, address)) => {
-            let address = address.parse().expect("an address number");
-            Operand::memory(width.parse().expect("a width"), Place::Address(address))
+            let place = match address {
+                "?" => Place::Unknown,
+                number => Place::Address(number.parse().expect("an address number")),
+            };
+            Operand::memory(width.parse().expect("a width"), place)
         }
+        None if text == "?" => Operand::Other,
         None => Operand::register(text),
     }
 }
 
-/// The readable text of a line `NAME OPERAND OPERAND` for each
-/// instruction.
+/// The instruction of a line `NAME OPERAND OPERAND`.
+fn instruction(address: u64, line: &str) -> Instruction {
+    let mut words = line.split(' ');
+    let name = words.next().unwrap_or_default();
+    Instruction::new(address, name, words.map(operand))
+}
+
+/// The readable text of a line for each instruction.
 fn shown(lines: &[&str]) -> String {
     let mut lifter = Lifter::with_capacity(1_024, 256);
     for (address, line) in (0x10..).zip(lines) {
-        let mut words = line.split(' ');
-        let name = words.next().unwrap_or_default();
-        let insn = Instruction::new(address, name, words.map(operand));
-        lifter.lift(&insn).expect("there is room");
+        let lifted = lifter.lift(&instruction(address, line));
+        lifted.expect("there is room");
     }
     let shown = show(&listing(&lifter, ""), None).expect("it is a listing");
     let (head, text) = shown.text.split_once('\n').expect("a head");
@@ -136,16 +147,140 @@ fn a_status_word_has_its_parts() {
 
 #[test]
 fn declines_are_said_in_words() {
-    assert_eq!(
-        shown(&["fld1", "fsin"]),
-        "-- 0x11: not modelled: the stack is forgotten here\n-- nothing is known of the stack\n"
-    );
+    let declines = [
+        ("fsin", "the lifter does not know its name"),
+        ("fld1 st(1)", "its name takes another number of operands"),
+        (
+            "fld eax",
+            "an operand is of a kind, or a register, that its name does not take",
+        ),
+        ("fld 32@?", "the address of its memory operand is not known"),
+        (
+            "fist 64@1",
+            "the width of its memory operand is not known, or its name does not take it",
+        ),
+    ];
+    for (line, words) in declines {
+        let expected = format!(
+            "-- 0x11: {words}: the stack is forgotten here\n-- nothing is known of the stack\n"
+        );
+        assert_eq!(shown(&["fld1", line]), expected);
+    }
     let full = shown(&["fld1"; 9]);
     assert!(full.starts_with("-- 0x18: pushes onto a full stack: the stack is forgotten here\n"));
     let lifter = Lifter::with_capacity(16, 16);
     let shown = show(&listing(&lifter, "r 6 99\n"), None).expect("it is a listing");
     let end = "-- refused (6): no room for the instruction's nodes, at byte 99 of the records\n";
     assert!(shown.refused && shown.text.ends_with(end), "{}", shown.text);
+}
+
+/// What is said of a decline, with notes of a record that give this
+/// reason.
+fn reason(insn: &Instruction, why: Option<&str>) -> String {
+    let mut lifter = Lifter::default();
+    lifter.lift(insn).expect("there is room");
+    let mut bytes = Vec::new();
+    write_record(insn, &mut bytes).expect("it has a record");
+    let record = Record {
+        bytes,
+        text: "this".to_owned(),
+        why: why.map(str::to_owned),
+        ..Record::default()
+    };
+    let event = Event {
+        address: insn.address,
+        what: What::Record(record),
+    };
+    let notes = Notes {
+        events: vec![event],
+        ..Notes::default()
+    };
+    let shown = show(&listing(&lifter, ""), Some(&notes)).expect("it is a listing");
+    let said = shown.text.strip_prefix("10: -- this: ");
+    let said = said.and_then(|said| said.strip_suffix(": the stack is forgotten here\n"));
+    said.expect("it is declined").to_owned()
+}
+
+/// Declines, and what can be said of each with its record.
+const DECLINES: [(&str, &str); 20] = [
+    ("fprem", "the lifter does not know the name fprem"),
+    ("call ?", "the lifter does not know the name call"),
+    ("fld1 st(1)", "it has 1 operand, and its name takes 0"),
+    ("fld", "it has 0 operands, and its name takes 1"),
+    ("fadd", "it has 0 operands, and its name takes 1 or 2"),
+    (
+        "fxch st(0) 7@?",
+        "it has 2 operands, and its name takes 0 or 1",
+    ),
+    (
+        "faddp ? ? ?",
+        "it has 3 operands, and its name takes 0, 1 or 2",
+    ),
+    ("fxch st(8)", "its name does not take st(8)"),
+    ("fnstsw eax", "its name does not take eax"),
+    ("fucom 32@1", "its name does not take memory"),
+    (
+        "fld ?",
+        "its name does not take what is read as neither register nor memory",
+    ),
+    (
+        "fadd st(0) 32@1",
+        "its name does not take memory as operand 2",
+    ),
+    ("fcomi eax ebx", "its name does not take ebx as operand 2"),
+    (
+        "fcmovb st(1) st(2)",
+        "its name does not take st(1) as operand 1",
+    ),
+    (
+        "fcmovb st(1) ax",
+        "its name does not take st(1) as operand 1, nor ax as operand 2",
+    ),
+    ("fstp 7@?", "the address of its memory operand is not known"),
+    (
+        "fist 64@1",
+        "its memory operand has 64 bits, and its name takes 16 or 32",
+    ),
+    (
+        "fld 128@1",
+        "its memory operand has 128 bits, and its name takes 32, 64 or 80",
+    ),
+    (
+        "fnstsw 32@1",
+        "its memory operand has 32 bits, and its name takes 16",
+    ),
+    (
+        "fadd 0@1",
+        "the width of its memory operand is not known, and its name takes 32 or 64 bits",
+    ),
+];
+
+#[test]
+fn a_decline_says_what_the_name_does_not_take() {
+    for (line, words) in DECLINES {
+        assert_eq!(reason(&instruction(0x10, line), None), words, "{line}");
+    }
+}
+
+#[test]
+fn the_reason_of_the_notes_stands_first() {
+    let made = instruction(0x10, "?fadd");
+    let why = "its rounding is not known";
+    assert_eq!(reason(&made, Some(why)), why);
+    assert_eq!(
+        reason(&made, None),
+        "the lifter does not know the name ?fadd"
+    );
+}
+
+/// Whatever a record has for a text, it makes no line of its own.
+#[test]
+fn a_text_stays_on_its_line() {
+    let name = Instruction::new(0x10, "f\n12: st(0) = 1.0", []);
+    let words = "the lifter does not know the name f\\n12: st(0) = 1.0";
+    assert_eq!(reason(&name, None), words);
+    let register = Instruction::new(0x10, "fld", [Operand::register("\n")]);
+    assert_eq!(reason(&register, None), "its name does not take \\n");
 }
 
 #[test]
@@ -194,6 +329,15 @@ fn what_is_no_listing_is_named() {
 }
 
 #[test]
+fn a_decline_has_an_answer_and_a_detail_of_its_own() {
+    for row in ["1 16 0", "1 16 20", "1 16 26", "2 16 21", "0 16 21"] {
+        let wrong = show(&format!("s 0 6 {row}\nd 0 0 0\n"), None);
+        let why = "there is no such statement";
+        assert_eq!(wrong, Err(Wrong::Line { line: 1, why }), "{row}");
+    }
+}
+
+#[test]
 fn a_failed_step_is_not_an_empty_stack() {
     let why = |listing: &str| show(listing, None).expect_err("a step failed").to_string();
     assert_eq!(
@@ -204,7 +348,7 @@ fn a_failed_step_is_not_an_empty_stack() {
         why(""),
         "x87lift wrote nothing: the step before this one failed"
     );
-    let failed = notes::Notes::failed("there is no function `f`");
+    let failed = Notes::failed("there is no function `f`");
     let why = show("d 0 0 0\nr 12 0\n", Some(&failed)).expect_err("a step failed");
     assert_eq!(why.to_string(), "x87rec failed: there is no function `f`");
 }

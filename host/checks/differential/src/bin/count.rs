@@ -40,13 +40,14 @@ mod counted {
     use differential::rng::Rng;
     use differential::work::{Lists, WORKS, sequences};
     use plain::{FLAT, Instruction};
-    use sleetgate_sys::{EFFECT, FORM, NAMED, READ};
+    use sleetgate_sys::{DETAIL, EFFECT, FORM, NAMED, READ};
 
     /// The calls that are counted.
-    pub const CALLS: [&str; 7] = [
+    pub const CALLS: [&str; 8] = [
         "x87_lift",
         "x87_lift_record",
         "x87_classify",
+        "x87_why",
         "x87_effect",
         "x87_read_record",
         "x87_check",
@@ -136,6 +137,7 @@ mod counted {
     fn of_flat(call: &str, flat: &[u8; FLAT]) {
         let answer = match call {
             "x87_classify" => sleetgate_sys::classify(black_box(flat), &mut [0; FORM]),
+            "x87_why" => sleetgate_sys::why(black_box(flat), &mut [0; DETAIL]),
             "x87_effect" => sleetgate_sys::effect(black_box(flat), &mut [0; EFFECT]),
             _ => panic!("no such call: {call}"),
         };

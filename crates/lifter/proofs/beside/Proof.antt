@@ -1,0 +1,12 @@
+use borrow.Author.Tests.{eq-eqb, ne-eqb}
+use Rattle.lifter.proofs.beside.Statement.{statement}
+use Rattle.lifter.proofs.beside.Tie as tie
+
+returns : tie.Need-returns
+returns c = rw (eq-eqb _ _ (c .if1 .taken))
+
+returns-2 : tie.Need-returns-2
+returns-2 c = rw (ne-eqb _ _ (c .if1 .left))
+
+pub beside-spec : {M : Type 1} → statement M
+beside-spec = tie.close (tie.spec returns returns-2)
