@@ -23,6 +23,7 @@ const SLICES: usize = 5;
 #[derive(Clone, Copy)]
 enum Call {
     Classify,
+    Why,
     Effect,
     ReadRecord,
     Lift,
@@ -123,6 +124,12 @@ pub fn classify(flat: &[u8], out: &mut [u64]) -> u32 {
     ask(Call::Classify, [0; 2], lent)
 }
 
+/// As [`crate::why`], on any lengths.
+pub fn why(flat: &[u8], out: &mut [u64]) -> u32 {
+    let lent = &mut [Bytes(flat), WrittenWords(out)];
+    ask(Call::Why, [0; 2], lent)
+}
+
 /// As [`crate::effect`], on any lengths.
 pub fn effect(flat: &[u8], out: &mut [u64]) -> u32 {
     let lent = &mut [Bytes(flat), WrittenWords(out)];
@@ -136,12 +143,18 @@ pub fn read_record(input: &[u8], at: usize, flat: &mut [u8], out: &mut [u64]) ->
 }
 
 /// As [`crate::lift`], on any lengths.
-pub fn lift(flat: &[u8], state: &mut [u64], nodes: &mut [u64], statements: &mut [u64]) -> u32 {
+pub fn lift(
+    flat: &[u8],
+    state: &mut [u64],
+    nodes: &mut [u64],
+    statements: &mut [u64],
+    out: &mut [u64],
+) -> u32 {
     if cfg!(no_lift) {
         panic!("{}", crate::MISSING_LIFT);
     }
-    let [state, nodes, statements] = [state, nodes, statements].map(WrittenWords);
-    let lent = &mut [Bytes(flat), state, nodes, statements];
+    let [state, nodes, statements, out] = [state, nodes, statements, out].map(WrittenWords);
+    let lent = &mut [Bytes(flat), state, nodes, statements, out];
     ask(Call::Lift, [0; 2], lent)
 }
 

@@ -16,6 +16,7 @@ typedef uint64_t word;
 typedef uint32_t number;
 
 extern number x87_classify(const byte *, word, word *, word);
+extern number x87_why(const byte *, word, word *, word);
 extern number x87_effect(const byte *, word, word *, word);
 extern number x87_read_record(const byte *, word, word, byte *, word, word *, word);
 extern number x87_lift_record(const byte *, word, word, word *, word, word *, word,
@@ -27,11 +28,14 @@ extern number x87_evaluate(const word *, word, word, const word *, word, word *,
                            word *, word);
 
 /* Not in every library; `emulated.rs` does not ask for it then. */
-extern number x87_lift(const byte *, word, word *, word, word *, word, word *, word)
-    __attribute__((weak));
+extern number x87_lift(const byte *, word, word *, word, word *, word, word *, word,
+                       word *, word) __attribute__((weak));
 
 enum { SLICES = 5, WORD = sizeof(word) };
-enum { CLASSIFY, EFFECT, READ_RECORD, LIFT, LIFT_RECORD, IMAGE_READ, IMAGE_WRITE, CHECK, EVALUATE };
+enum {
+    CLASSIFY, WHY, EFFECT, READ_RECORD, LIFT, LIFT_RECORD,
+    IMAGE_READ, IMAGE_WRITE, CHECK, EVALUATE,
+};
 
 struct request {
     word call, numbers[2], only_read, bytes[SLICES];
@@ -45,9 +49,10 @@ static number called(const struct request *asked, byte *const *slices) {
     word first = asked->numbers[0], second = asked->numbers[1];
     switch (asked->call) {
     case CLASSIFY: return x87_classify(BYTES(0), WORDS(1));
+    case WHY: return x87_why(BYTES(0), WORDS(1));
     case EFFECT: return x87_effect(BYTES(0), WORDS(1));
     case READ_RECORD: return x87_read_record(BYTES(0), first, BYTES(1), WORDS(2));
-    case LIFT: return x87_lift(BYTES(0), WORDS(1), WORDS(2), WORDS(3));
+    case LIFT: return x87_lift(BYTES(0), WORDS(1), WORDS(2), WORDS(3), WORDS(4));
     case LIFT_RECORD:
         return x87_lift_record(BYTES(0), first, WORDS(1), WORDS(2), WORDS(3), WORDS(4));
     case IMAGE_READ: return x87_image_read(BYTES(0), first, second, WORDS(1));
