@@ -1,6 +1,6 @@
 //! Links the static library of the proved crates, where it is built: into
-//! the program that takes this crate on x86-64, and elsewhere into a
-//! program for x86-64 that is asked.
+//! the program that takes this crate, or, where that is not for x86-64 and
+//! the library is, into a program for x86-64 that is asked.
 
 use std::env;
 use std::fs;
@@ -26,7 +26,7 @@ fn main() {
         println!("cargo::rustc-cfg=no_library");
         return;
     };
-    if !emulator::is_needed() {
+    if !emulator::is_needed() || !emulator::is_for_x86_64(&archive) {
         link(&path);
     } else if emulator::made("served", &[Path::new(SERVED), &path]) {
         println!("cargo::rustc-cfg=emulated");

@@ -68,7 +68,7 @@ pub fn left_out(why: &str) {
 /// Say where the library is run by an emulator: what is measured then says
 /// nothing about it.
 pub fn tell_unmeasured() {
-    if cfg!(not(target_arch = "x86_64")) {
+    if sleetgate_sys::is_emulated() {
         eprintln!("the library is run by an emulator here: its times and counts say nothing");
     }
 }

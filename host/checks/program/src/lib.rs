@@ -34,7 +34,7 @@ impl Program {
             || Path::new(env!("CARGO_MANIFEST_DIR")).join(DEFAULT),
             PathBuf::from,
         );
-        (path.is_file() && emulator::at_hand()).then_some(Self(path))
+        emulator::runs(&path).then_some(Self(path))
     }
 
     /// What it writes when it is started with these arguments and no input.

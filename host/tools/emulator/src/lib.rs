@@ -3,10 +3,11 @@
 //! Rattle's compiler makes code for x86-64. On another machine QEMU runs
 //! it: the program `x87lift` as it is ([`command`]), and the static library
 //! within a small program of C that is asked by a pipe ([`made`],
-//! [`Served`]). On x86-64 nothing of this is needed, and [`command`] is the
-//! program itself.
+//! [`Served`]). Code for the machine itself, as all is on x86-64, is run as
+//! it is.
 
 use std::env;
+use std::fs;
 use std::io::{self, Error, Read as _, Write as _};
 use std::path::Path;
 use std::process::{Child, ChildStdin, ChildStdout, Command, Stdio};
@@ -24,18 +25,31 @@ pub const NEEDED: &str = "a machine that is not x86-64 needs the Debian packages
                           gcc-x86-64-linux-gnu, libc6-dev-amd64-cross and qemu-user-static \
                           (bash host/tools/emulator.sh)";
 
-/// Whether programs for x86-64 can be run here, and find their loader.
+/// Whether a program or a library is for x86-64: behind the mark of the
+/// first ELF file in it two bytes name the machine.
 #[must_use]
-pub fn at_hand() -> bool {
-    let loader = Path::new(ROOT).join("lib64/ld-linux-x86-64.so.2");
-    let ready = || output(Command::new(EMULATOR).arg("--version")).is_ok();
-    cfg!(target_arch = "x86_64") || loader.is_file() && ready()
+pub fn is_for_x86_64(file: &[u8]) -> bool {
+    let mark = file.windows(4).position(|bytes| bytes == b"\x7fELF");
+    mark.and_then(|at| file.get(at + 18..at + 20)) == Some(&[62, 0])
 }
 
-/// The command that runs a program for x86-64.
+/// Whether a program is not for this machine, but for x86-64.
+fn is_foreign(program: &Path) -> bool {
+    cfg!(not(target_arch = "x86_64")) && fs::read(program).is_ok_and(|file| is_for_x86_64(&file))
+}
+
+/// Whether a program is there and can be run, its loader too.
+#[must_use]
+pub fn runs(program: &Path) -> bool {
+    let loader = Path::new(ROOT).join("lib64/ld-linux-x86-64.so.2");
+    let ready = || loader.is_file() && output(Command::new(EMULATOR).arg("--version")).is_ok();
+    program.is_file() && (!is_foreign(program) || ready())
+}
+
+/// The command that runs a program.
 #[must_use]
 pub fn command(program: &Path) -> Command {
-    if cfg!(target_arch = "x86_64") {
+    if !is_foreign(program) {
         return Command::new(program);
     }
     let mut command = Command::new(EMULATOR);
@@ -76,7 +90,7 @@ fn compile(parts: &[&Path], program: &Path) -> io::Result<()> {
     output(&mut command(program))
 }
 
-/// Run a command without input; an error tells its first words.
+/// Run a command without input; an error tells in one line what it said.
 fn output(command: &mut Command) -> io::Result<()> {
     let name = command.get_program().display().to_string();
     let told = |why: String| Error::other(format!("{name}: {why}"));
@@ -85,9 +99,8 @@ fn output(command: &mut Command) -> io::Result<()> {
     if done.status.success() {
         return Ok(());
     }
-    let said = String::from_utf8_lossy(&done.stderr).into_owned();
-    let first = said.lines().next().unwrap_or_default();
-    Err(told(format!("{}: {first}", done.status)))
+    let said = String::from_utf8_lossy(&done.stderr).replace('\n', " ");
+    Err(told(format!("{}: {said}", done.status)))
 }
 
 /// A program that answers requests, each once it has read all of it.

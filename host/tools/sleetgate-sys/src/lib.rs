@@ -39,6 +39,12 @@ pub fn at_hand() -> bool {
     cfg!(not(no_library))
 }
 
+/// Whether the library is run by an emulator.
+#[must_use]
+pub fn is_emulated() -> bool {
+    cfg!(emulated)
+}
+
 /// Whether the library exports the lifter.
 #[must_use]
 pub fn has_lift() -> bool {
