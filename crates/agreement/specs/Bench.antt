@@ -16,6 +16,8 @@ use Rattle.forms.specs.Operands.{rangedIs, spelledIs, slotOf, widthOf}
 use Rattle.forms.specs.Names.{names, familyOf}
 use Rattle.forms.specs.Families.{formOf}
 use Rattle.forms.specs.Classify.{classifyOf}
+use Rattle.details.specs.Takes as takes
+use Rattle.details.specs.Why.{kindOff, addressOff, widthOff, unknownName, wrongCount, wrongKind, unknownAddress, wrongWidth, whyOf}
 use Rattle.lists.specs.Rows.{Row, row, stored, wrote, up, roomOf}
 use Rattle.lists.specs.Steps.{Built, _▸_, gives}
 use Rattle.lists.specs.Nodes.{nodeOf, statementOf, inputCounted, temporaryCounted, freshOf, temporaryOf}
@@ -51,7 +53,7 @@ unfoldable pub after : List Instruction → Held
 after is = ran (begun (replicate 256 0) (replicate 64 0)) is
 
 unfoldable pub lifted : List Instruction → Instruction → Built
-unfolding after ran called stepped liftOf fittingOf loweredOf validOf allSound soundOf roomOf up stored wrote _▸_ gives nodeOf statementOf inputCounted temporaryCounted freshOf temporaryOf classifyOf formOf familyOf names rangedIs spelledIs slotOf widthOf texts.validOf trimOf cut placeOf applyX87Of declineX87Of landOf pushConstOf pushSlotOf pushMemoryOf droppedTimes droppedIf orderedOf x87ArithOf x87CompareStatusOf x87CompareFlagsOf variableOf readOperandLoweredOf imageReadOf convertedOf x87MemoryReadOf sourceOf writeDstOf topOf x87StoreMemoryOf isImage arithKindOf extendedFromMemoryOf narrowedOf fromSlotOf extendedArithOf unorderedOf x87StatusWordOf stack.havocOf stack.grown stack.bottomOf stack.lowered stack.ensureOf stack.slotOf stack.kept stack.readOf stack.writeOf stack.overflows stack.pushOf stack.dropTopOf stack.popOf
+unfolding after ran called stepped liftOf fittingOf loweredOf validOf allSound soundOf roomOf up stored wrote _▸_ gives nodeOf statementOf inputCounted temporaryCounted freshOf temporaryOf classifyOf formOf familyOf names rangedIs spelledIs slotOf widthOf texts.validOf trimOf cut placeOf whyOf unknownName wrongCount wrongKind unknownAddress wrongWidth kindOff addressOff widthOff takes.table applyX87Of declineX87Of landOf pushConstOf pushSlotOf pushMemoryOf droppedTimes droppedIf orderedOf x87ArithOf x87CompareStatusOf x87CompareFlagsOf variableOf readOperandLoweredOf imageReadOf convertedOf x87MemoryReadOf sourceOf writeDstOf topOf x87StoreMemoryOf isImage arithKindOf extendedFromMemoryOf narrowedOf fromSlotOf extendedArithOf unorderedOf x87StatusWordOf stack.havocOf stack.grown stack.bottomOf stack.lowered stack.ensureOf stack.slotOf stack.kept stack.readOf stack.writeOf stack.overflows stack.pushOf stack.dropTopOf stack.popOf
 lifted before i = let h = after before in liftOf (h .st) i (h .nodes) (h .statements)
 
 -- The figures of a lift: its answer, the state's depth, inputs and temporaries, and how many nodes and statements it adds
@@ -123,8 +125,9 @@ table =
     nodes (at "fld" "st(7)")
     (row 0 1 0 79 0 ∷ row 1 1 1 79 0 ∷ row 2 1 2 79 0 ∷ row 3 1 3 79 0 ∷ row 4 1 4 79 0 ∷ row 5 1 5 79 0 ∷ row 6 1 6 79 0 ∷ row 7 1 7 79 0 ∷ []) ∷
     counts [] (at "fld" "st(7)") (record { answer = 2; depth = 0; inputs = 8; temporaries = 0; nodes = 8; statements = 1 }) ∷
-    -- P8, P9: a store of 64 bits is modelled only where it pops
+    -- P8, P9: a store of 64 bits is modelled only where it pops; the detail is 25, width not taken
     counts [] (bits "fist" 64) (record { answer = 1; depth = 0; inputs = 0; temporaries = 0; nodes = 0; statements = 1 }) ∷
+    statements [] (bits "fist" 64) (row 0 6 1 16 25 ∷ []) ∷
     counts [] (bits "fistp" 64) (record { answer = 0; depth = 0; inputs = 1; temporaries = 0; nodes = 3; statements = 1 }) ∷
     -- P10: unordered is node 6; PF, ZF, CF, OF, SF
     counts [] (at2 "fcomi" "st(0)" "st(1)") (record { answer = 0; depth = 2; inputs = 2; temporaries = 0; nodes = 13; statements = 5 }) ∷
@@ -196,5 +199,5 @@ free-read bytes long none p lo h = rw (long, lt-ltb (val p) (2 ^ 79) h, none, �
 pub bench : AllHold table
 unfolding lifted figures imageAfter imageOf bytesOf
 bench =
-    refl & refl & refl & refl & free-read _ refl refl & free-read _ refl refl & refl & refl & refl & refl & refl & refl & refl & refl & refl
+    refl & refl & refl & refl & free-read _ refl refl & free-read _ refl refl & refl & refl & refl & refl & refl & refl & refl & refl & refl & refl
     & refl & refl & bit-9 & refl & refl & refl & refl & refl & end

@@ -141,7 +141,7 @@ module _ (nodes statements : List ℕ) where
       way : (u t x : Bool) → x ≡ true
           → Holds (wordsOf (cond u (cond (t && x) (liftedIn (insnOf flat) (w .state) (w .nodes) (w .statements)) left) left)) (run (is ++ cond u (cond t (insnOf flat ∷ []) []) []))
       way true true true e = lifted-on w is (insnOf flat) k
-      way u true false e = absurd (false≢true e)
+      way true true false e = absurd (false≢true e)
       way true false x e = nothing-on w is 10 k
       way false t x e = nothing-on w is 10 k
   call-on w is (LiftRecord input at out) k = way (atLeast 3 out) (atLeast 13 (w .state)) (takenAt input at .outcome) (le-leb 13 (length (w .state)) (k .long))

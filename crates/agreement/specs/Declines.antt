@@ -20,6 +20,7 @@ use Rattle.details.specs.Why.{unknownName, wrongCount, wrongKind, unknownAddres
 use Rattle.details.specs.Inside.{whyBy}
 use Rattle.details.proofs.Families.{by-family}
 pub mod Families
+pub mod Said
 use Families.{declinedIs, someIs, exactly}
 
 -- k is the number of the first reason that holds
@@ -44,7 +45,7 @@ unfolding whyOf someIs
 because i = way (unknownName i) (wrongCount i) (wrongKind i) (unknownAddress i) (wrongWidth i) refl refl refl refl refl
   where
     way : (a b c d e : Bool) → unknownName i ≡ a → wrongCount i ≡ b → wrongKind i ≡ c → unknownAddress i ≡ d → wrongWidth i ≡ e
-        → let k = cond a 21 (cond b 22 (cond c 23 (cond d 24 (cond e 25 0)))) in someIs k ≡ true → Because i k
+        → let k = cond {A = ℕ} a 21 (cond b 22 (cond c 23 (cond d 24 (cond e 25 0)))) in someIs k ≡ true → Because i k
     way true b c d e p q r s t h = name p
     way false true c d e p q r s t h = count p q
     way false false true d e p q r s t h = kind p q r

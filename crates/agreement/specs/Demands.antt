@@ -26,7 +26,7 @@ demanded sorts k a b c =
     -- ax: 16 bits
     (cond (eqb k 5) (isWide sorts a 16 && (eqb b 0 && eqb c 0))
     -- unsupported, and no node: answer 1 with a detail of 21 to 25, or answer 2 with none
-    (cond (eqb k 6) ((eqb a 1 && (leb 21 c && leb c 25)) || (eqb a 2 && eqb c 0))
+    (cond (eqb k 6) (cond (eqb a 1) (leb 21 c && leb c 25) (eqb a 2 && eqb c 0))
     false)))))
 
 -- The node that a statement of kind 1 to 5 names, and the bits of its place

@@ -2,6 +2,7 @@ pub mod Theorems
 pub mod Runs
 pub mod Demands
 pub mod Fits
+pub mod Declines
 pub mod Fine
 pub mod Makes
 pub mod Laid

@@ -3,18 +3,20 @@
 -- That these are what the contracts of the calls claim is said in Cited
 use mathlib.Core.Path.{_≡_}
 use mathlib.Core.Bool.{Bool, true, false}
-use mathlib.Core.List.{List}
+use mathlib.Core.List.{List, [], _∷_}
 use Prim.Native.Nat.{ℕ, _/_, _≤_, _<_}
 use lib.Dec.{leb}
 use lib.ListN.{length, take, replicate}
 use denote.Ref.{now}
-use Rattle.lists.specs.Rows.{wrote}
+use Rattle.lists.specs.Rows.{row, wrote}
 use Rattle.forms.specs.declared.Instruction.{Instruction}
 use Rattle.forms.specs.declared.Form.the-variants.{PushMemory, StoreMemory}
 use Rattle.forms.specs.declared.MemFormat.the-variants.{Float}
 use Rattle.forms.specs.declared.RoundingMode.{RoundingMode}
-use Rattle.forms.specs.declared.Classified.the-variants.{Modelled}
+use Rattle.forms.specs.declared.Classified.the-variants.{Modelled, Declined}
 use Rattle.forms.specs.Classify.{classifyOf}
+use Rattle.forms.specs.Numbers.{numberOf}
+use Rattle.details.specs.Why.{whyOf, detailOf}
 use Rattle.records.specs.Format.{takenAt}
 use Rattle.records.specs.declared.Cursor.{Cursor}
 use Rattle.records.specs.declared.Taken.{Taken}
@@ -43,7 +45,9 @@ use Rattle.agreement.specs.Widths.{OfOperand, widths}
 use Rattle.agreement.specs.Covers.{Effect-holds, effect-holds}
 use Rattle.agreement.specs.Refused.{refused}
 use Rattle.agreement.specs.Calls.{Call, makes, allHanded, inHand, calls-run}
-use Rattle.agreement.specs.Beside.{Zeros, PlaceAndZero, classify-beside, step-beside}
+use Rattle.agreement.specs.Declines.{Because, declines-so, declines-only}
+use Rattle.agreement.specs.Declines.Said.{says}
+use Rattle.agreement.specs.Beside.{Zeros, PlaceAndZeros, classify-beside, step-beside}
 
 -- 1 WHAT IS LIFTED IS SORTED: the state is valid, the sort check passes the nodes, each used place of the stack names a node of 79 bits,
 -- and each statement names a node as wide as its place demands
@@ -131,5 +135,17 @@ theorem-13 = calls-run
 pub theorem-14 : (flat : List ℕ) → Zeros 8 (classified flat)
 theorem-14 = classify-beside
 
-pub theorem-14-record : (t : Taken) (at : ℕ) (s n m : List ℕ) → let x = steppedOf t at s n m in leb (x .lifted .answer) 2 ≡ false → PlaceAndZero (x .told)
+pub theorem-14-record : (t : Taken) (at : ℕ) (s n m : List ℕ) → let x = steppedOf t at s n m in leb (x .lifted .answer) 2 ≡ false → PlaceAndZeros 2 (x .told)
 theorem-14-record = step-beside
+
+-- 15 NO DECLINE IS WITHOUT A REASON, AND NO MODELLED INSTRUCTION HAS ONE: of an instruction that is refused neither with 3 nor with 4, `classify` declines exactly if
+-- one of the five reasons holds, and the detail is the first of them; the statement of the decline says the detail that the call gives
+pub theorem-15 : (i : Instruction) → classifyOf i ≡ Declined → Because i (whyOf i)
+theorem-15 = declines-so
+
+pub theorem-15-only : (i : Instruction) → leb (numberOf (classifyOf i)) 1 ≡ true → (k : ℕ) → Because i k → (classifyOf i ≡ Declined) × (whyOf i ≡ k)
+theorem-15-only = declines-only
+
+pub theorem-15-said : (h : Held) (i : Instruction) → answered h i ≡ 1
+    → liftOf (h .st) i (h .nodes) (h .statements) .ss ≡ row (h .st .statements) 6 1 (i .address) (detailOf (answered h i) i) ∷ []
+theorem-15-said = says

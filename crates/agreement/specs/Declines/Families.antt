@@ -1,5 +1,5 @@
 -- Family by family: what it makes of its operands is a decline exactly if they have a detail
-use mathlib.Core.Path.{_≡_, refl}
+use mathlib.Core.Path.{_≡_, refl, sym, ap, _∙_}
 use mathlib.Core.Bool.{Bool, true, false, cond, not, true≢false, _&&_}
 use mathlib.Core.List.{List}
 use Prim.Native.Nat.{ℕ}
@@ -22,6 +22,7 @@ use Rattle.forms.specs.declared.X87Arith.{X87Arith}
 use Rattle.forms.specs.declared.X87Condition.{X87Condition}
 use Rattle.forms.specs.declared.Classified.{Classified}
 use Rattle.forms.specs.declared.Classified.the-variants.{Modelled, Declined, BadText, BadOperands}
+use Rattle.forms.specs.declared.Form.the-variants.{StoreStatus}
 use Rattle.forms.specs.declared.Family.{Family}
 use Rattle.forms.specs.declared.Family.the-variants as family
 use Rattle.forms.specs.Operands.{slotOf, widthOf, takesOf, widthsOf, axOf, operandsOf}
@@ -46,61 +47,67 @@ module _ (o : Operand) where
   -- where a place is taken
   of-place : (at : Place → Classified) → ((i : ℕ) → declinedIs (at (At i)) ≡ false) → declinedIs (at Nowhere) ≡ true → declinedIs (at (slotOf o)) ≡ someIs (whyOne place o)
   unfolding someIs
-  of-place at yes no = rw (place-why o) (way (slotOf o))
+  of-place at taken left = rw (place-why o) (way (slotOf o))
     where
       way : (p : Place) → declinedIs (at p) ≡ not (eqb (cond (placeIs p) 0 23) 0)
-      way (At i) = yes i
-      way Nowhere = no
+      way (At i) = taken i
+      way Nowhere = left
 
   -- where memory is
   of-memory : (ws : Widths) (at : Width → Classified) → ((w : ℕ) → declinedIs (at (Bits w)) ≡ false) → declinedIs (at Unmodelled) ≡ true
       → declinedIs (at (widthOf ws o)) ≡ someIs (whyOne (memory (widthsOf ws)) o)
   unfolding someIs widthOf
-  of-memory ws at yes no = rw (memory-why o ws) (way (eqb (o .kind) 1) (eqb (o .known) 1) (takesOf ws (o .width)))
+  of-memory ws at taken left = rw (memory-why o ws) (way (eqb (o .kind) 1) (eqb (o .known) 1) (takesOf ws (o .width)))
     where
       way : (m k t : Bool) → declinedIs (at (cond (m && (k && t)) (Bits (o .width)) Unmodelled)) ≡ not (eqb (cond m (memoryWhy k t) 23) 0)
-      way true true true = yes (o .width)
-      way true true false = no
-      way true false t = no
-      way false k t = no
+      way true true true = taken (o .width)
+      way true true false = left
+      way true false t = left
+      way false k t = left
 
   -- where either is; where memory is, and a register is declined
   of-either : (ws : Widths) (at : Place → Width → Classified) → ((i : ℕ) (w : Width) → declinedIs (at (At i) w) ≡ false) → ((w : ℕ) → declinedIs (at Nowhere (Bits w)) ≡ false)
       → declinedIs (at Nowhere Unmodelled) ≡ true → declinedIs (at (slotOf o) (widthOf ws o)) ≡ someIs (whyOne (place-or (widthsOf ws)) o)
   unfolding someIs widthOf slotOf
-  of-either ws at yes fits no = rw (place-or-why o ws, place-why o, memory-why o ws) (way (eqb (o .kind) 0) (eqb (o .kind) 1) (eqb (o .known) 1) (takesOf ws (o .width)) (placeOf (bytesOf (o .text))) (kinds o))
+  of-either ws at taken fits left = rw (place-or-why o ws, place-why o, memory-why o ws) (way (eqb (o .kind) 0) (eqb (o .kind) 1) (eqb (o .known) 1) (takesOf ws (o .width)) (placeOf (bytesOf (o .text))) (kinds o))
     where
       way : (r m k t : Bool) (p : Place) → (r ≡ true → m ≡ false) → declinedIs (at (cond r p Nowhere) (cond (m && (k && t)) (Bits (o .width)) Unmodelled))
           ≡ not (eqb (cond r (cond (placeIs (cond r p Nowhere)) 0 23) (cond m (memoryWhy k t) 23)) 0)
       way true true k t p h = absurd (true≢false (h refl))
-      way true false k t (At i) h = yes i _
-      way true false k t Nowhere h = no
+      way true false k t (At i) h = taken i _
+      way true false k t Nowhere h = left
       way false true true true p h = fits (o .width)
-      way false true true false p h = no
-      way false true false t p h = no
-      way false false k t p h = no
+      way false true true false p h = left
+      way false true false t p h = left
+      way false false k t p h = left
 
   of-integer : (ws : Widths) (at : Place → Width → Classified) → ((i : ℕ) (w : Width) → declinedIs (at (At i) w) ≡ true) → ((w : ℕ) → declinedIs (at Nowhere (Bits w)) ≡ false)
       → declinedIs (at Nowhere Unmodelled) ≡ true → declinedIs (at (slotOf o) (widthOf ws o)) ≡ someIs (whyOne (memory (widthsOf ws)) o)
   unfolding someIs widthOf slotOf
-  of-integer ws at never fits no = rw (memory-why o ws) (way (eqb (o .kind) 0) (eqb (o .kind) 1) (eqb (o .known) 1) (takesOf ws (o .width)) (placeOf (bytesOf (o .text))) (kinds o))
+  of-integer ws at never fits left = rw (memory-why o ws) (way (eqb (o .kind) 0) (eqb (o .kind) 1) (eqb (o .known) 1) (takesOf ws (o .width)) (placeOf (bytesOf (o .text))) (kinds o))
     where
       way : (r m k t : Bool) (p : Place) → (r ≡ true → m ≡ false) → declinedIs (at (cond r p Nowhere) (cond (m && (k && t)) (Bits (o .width)) Unmodelled)) ≡ not (eqb (cond m (memoryWhy k t) 23) 0)
       way true true k t p h = absurd (true≢false (h refl))
       way true false k t (At i) h = never i _
-      way true false k t Nowhere h = no
+      way true false k t Nowhere h = left
       way false true true true p h = fits (o .width)
-      way false true true false p h = no
-      way false true false t p h = no
-      way false false k t p h = no
+      way false true true false p h = left
+      way false true false t p h = left
+      way false false k t p h = left
 
   loads : (f : MemFormat) (ws : Widths) → declinedIs (loadAt f (slotOf o) (widthOf ws o)) ≡ someIs (whyOne (movedOf f ws) o)
   loads Float ws = of-either ws (loadAt Float) (λ i w. refl) (λ w. refl) refl
   loads Integer ws = of-integer ws (loadAt Integer) (λ i w. refl) (λ w. refl) refl
 
   stores : (spec : StoreSpec) → declinedIs (storeAt spec (slotOf o) (widthOf (spec .widths) o)) ≡ someIs (whyOne (movedOf (spec .format) (spec .widths)) o)
-  stores (record { format = Float; widths = ws; pop = pop; rounding = r }) = of-either ws (storeAt (record { format = Float; widths = ws; pop = pop; rounding = r })) (λ i w. refl) (λ w. refl) refl
-  stores (record { format = Integer; widths = ws; pop = pop; rounding = r }) = of-integer ws (storeAt (record { format = Integer; widths = ws; pop = pop; rounding = r })) (λ i w. refl) (λ w. refl) refl
+  stores spec = way (spec .format) refl
+    where
+      same : {f g : MemFormat} → f ≡ g → someIs (whyOne (movedOf f (spec .widths)) o) ≡ someIs (whyOne (movedOf g (spec .widths)) o)
+      same e = ap (λ (f : MemFormat). someIs (whyOne (movedOf f (spec .widths)) o)) e
+
+      way : (f : MemFormat) → spec .format ≡ f → declinedIs (storeAt spec (slotOf o) (widthOf (spec .widths) o)) ≡ someIs (whyOne (movedOf (spec .format) (spec .widths)) o)
+      way Float e = of-either (spec .widths) (storeAt spec) (λ i w. rw e) (λ w. refl) refl ∙ same (sym e)
+      way Integer e = of-integer (spec .widths) (storeAt spec) (λ i w. rw e) (λ w. refl) refl ∙ same (sym e)
 
   compares : (p : ℕ) (m : MemorySource) → declinedIs (statusAt p m (slotOf o) (widthOf FloatShort o)) ≡ someIs (whyOne (comparedOf m) o)
   compares p Allowed = of-either FloatShort (statusAt p Allowed) (λ i w. refl) (λ w. refl) refl
@@ -114,7 +121,7 @@ module _ (o : Operand) where
   unfolding someIs storeStatusAt
   status-stores = rw (ax-or-why o StatusWidth) (way (eqb (o .kind) 0) (axOf (bytesOf (o .text))))
     where
-      way : (r t : Bool) → declinedIs (cond r (cond t (Modelled _) Declined) (statusTo (widthOf StatusWidth o))) ≡ not (eqb (cond r (cond t 0 23) (whyOne (memory (widthsOf StatusWidth)) o)) 0)
+      way : (r t : Bool) → declinedIs (cond r (cond t (Modelled StoreStatus) Declined) (statusTo (widthOf StatusWidth o))) ≡ not (eqb (cond r (cond t 0 23) (whyOne (memory (widthsOf StatusWidth)) o)) 0)
       way true true = refl
       way true false = refl
       way false t = of-memory StatusWidth statusTo (λ w. refl) refl
@@ -149,7 +156,7 @@ module _ (os : List Operand) where
   Exact : Family → ℕ → Type 0
   Exact f n = declinedIs (formOf f (operandsOf n os)) ≡ someIs (whyBy f n os)
 
-  pub exact : (f : Family) (n : ℕ) → Exact f n
+  exact : (f : Family) (n : ℕ) → Exact f n
   unfolding Exact formOf whyBy unknownIs whyAlone whyOnly whyPair someIs
   exact (family.Plain f) n = by-number (Exact (family.Plain f)) refl refl refl (λ n a b c. rw (a, b, c)) n
   exact family.Exchange n = by-number (Exact family.Exchange) refl (of-place _ exchangeAt (λ i. refl) refl) refl (λ n a b c. rw (a, b, c)) n
@@ -165,7 +172,7 @@ module _ (os : List Operand) where
   exact (family.IntegerCompare p) n = by-number (Exact (family.IntegerCompare p)) refl (of-memory _ IntArith (integerCompareOf p) (λ w. refl) refl) refl (λ n a b c. rw (a, b, c)) n
   exact (family.Arith op rev true) n = by-number (Exact (family.Arith op rev true)) refl (operates _ op rev true) (pairs _ _ op rev true) (λ n a b c. rw (a, b, c)) n
   exact (family.Arith op rev false) n = by-number (Exact (family.Arith op rev false)) refl (operates _ op rev false) (pairs _ _ op rev false) (λ n a b c. rw (a, b, c)) n
-  exact family.Unknown n = by-number (Exact family.Unknown) refl refl refl (λ n a b c. rw (a, b, c)) n
+  exact family.Unknown n = refl
 
 pub exactly : (f : Family) (n : ℕ) (os : List Operand) → declinedIs (formOf f (operandsOf n os)) ≡ someIs (whyBy f n os)
 unfolding Exact

@@ -1,6 +1,6 @@
 -- The sorts of what is lifted, form by form
 use mathlib.Core.Path.{_≡_, refl}
-use mathlib.Core.Bool.{Bool, true, false, _||_}
+use mathlib.Core.Bool.{Bool, true, false, cond, _&&_}
 use mathlib.Core.List.{List, [], _∷_}
 use Prim.Native.Nat.{ℕ, zero, suc, _+_, _*_, _^_, _≤_}
 use native.Mathlib.Omega.{arith}
@@ -37,6 +37,7 @@ use Rattle.memory.specs.Site.{siteOf}
 use Rattle.agreement.specs.Demands.{isWide, demanded}
 use Rattle.agreement.specs.Fits.{memoryFits, isMemory, sourceFits, formFits, firstOf, no-register}
 use Rattle.agreement.specs.Fits.Classified.{classify-fits}
+use Rattle.agreement.specs.Declines.{detail-listed}
 use Rattle.agreement.specs.Fine.{Placed, _has_, Known, Knows, Fine, next, moved, either, by}
 use Rattle.agreement.specs.Fine.Nodes.{node, fresh-node, temporary-node, Says, statement, quiet, still}
 use Rattle.agreement.specs.Fine.Kinds.{bits-some, of-three, input, temporary, slot-var, fsw, konst, bool-or, ite, f-equal, f-less, bv-to-fp}
@@ -72,7 +73,7 @@ module _ {v : ℕ} where
 
 -- Answer 1 with a detail, or answer 2 without
 abbrev detailed : ℕ → ℕ → Bool
-detailed why detail = (eqb why 1 && (leb 21 detail && leb detail 25)) || (eqb why 2 && eqb detail 0)
+detailed why detail = cond (eqb why 1) (leb 21 detail && leb detail 25) (eqb why 2 && eqb detail 0)
 
 declined : {why address detail : ℕ} → detailed why detail ≡ true → Says [] 6 why address detail
 unfolding demanded
