@@ -1,4 +1,6 @@
-//! Links the static library of the proved crates, where it is built.
+//! Links the static library of the proved crates, where it is built: into
+//! the program that takes this crate, or, where that is not for x86-64 and
+//! the library is, into a program for x86-64 that is asked.
 
 use std::env;
 use std::fs;
@@ -11,14 +13,28 @@ const VARIABLE: &str = "SLEETGATE_LIB";
 /// otherwise.
 const DEFAULT: &str = "../../../target/staticlib/libexport.a";
 
+/// The program that is asked where the machine is not x86-64.
+const SERVED: &str = "src/served.c";
+
 fn main() {
-    println!("cargo::rustc-check-cfg=cfg(no_library, no_lift)");
+    println!("cargo::rustc-check-cfg=cfg(no_library, no_lift, emulated)");
     println!("cargo::rerun-if-env-changed={VARIABLE}");
+    println!("cargo::rerun-if-changed={SERVED}");
     let path = library();
     println!("cargo::rerun-if-changed={}", path.display());
-    match fs::read(&path) {
-        Ok(archive) => link(&path, &archive),
-        Err(_) => println!("cargo::rustc-cfg=no_library"),
+    let Ok(archive) = fs::read(&path) else {
+        println!("cargo::rustc-cfg=no_library");
+        return;
+    };
+    if !emulator::is_needed() || !emulator::is_for_x86_64(&archive) {
+        link(&path);
+    } else if emulator::made("served", &[Path::new(SERVED), &path]) {
+        println!("cargo::rustc-cfg=emulated");
+    } else {
+        println!("cargo::rustc-cfg=no_library");
+    }
+    if !defines(&archive, b"x87_lift") {
+        println!("cargo::rustc-cfg=no_lift");
     }
 }
 
@@ -32,7 +48,7 @@ fn library() -> PathBuf {
     )
 }
 
-fn link(path: &Path, archive: &[u8]) {
+fn link(path: &Path) {
     let stem = path.file_stem().and_then(|s| s.to_str());
     let name = stem
         .and_then(|s| s.strip_prefix("lib"))
@@ -41,9 +57,6 @@ fn link(path: &Path, archive: &[u8]) {
     let folder = folder.parent().expect("a file stands in a folder");
     println!("cargo::rustc-link-search=native={}", folder.display());
     println!("cargo::rustc-link-lib=static={name}");
-    if !defines(archive, b"x87_lift") {
-        println!("cargo::rustc-cfg=no_lift");
-    }
 }
 
 /// Whether the archive's index of symbols names this one: its names lie

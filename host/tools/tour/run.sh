@@ -9,6 +9,14 @@ if [ ! -x "$lift" ] || [ ! -f "$library" ]; then
     echo "x87lift or the proved library is not there; build them by: rt check x87lift && rt staticlib export" >&2
     exit 1
 fi
+lifting=("$lift")
+if [ "$(uname -m)" != x86_64 ]; then
+    if ! command -v qemu-x86_64-static >/dev/null; then
+        echo "this machine is not x86-64, and what runs code for x86-64 is not there; install it by: bash host/tools/emulator.sh" >&2
+        exit 1
+    fi
+    lifting=(qemu-x86_64-static -L /usr/x86_64-linux-gnu "$lift")
+fi
 (cd host/tools && cargo build --offline --release -q -p x87rec -p x87show)
 bin=${CARGO_TARGET_DIR:-host/tools/target}/release
 work=$(mktemp -d)
@@ -33,7 +41,7 @@ way() {
     name=$1
     shift
     echo "\$ x87rec $* --names names < $name.objdump | x87lift | x87show --names names"
-    "$bin/x87rec" "$@" --names "$work/names" < "host/tools/tour/$name.objdump" | "$lift" | "$bin/x87show" --names "$work/names"
+    "$bin/x87rec" "$@" --names "$work/names" < "host/tools/tour/$name.objdump" | "${lifting[@]}" | "$bin/x87show" --names "$work/names"
 }
 {
     way quaternion --path

@@ -11,6 +11,7 @@ use compiled::reading::{Counts, compare};
 use compiled::run::{Part, Run};
 use compiled::stored::{Record, Records, file};
 use compiled::way::{Asked, decisions, shown, visits};
+use differential::processor::tell_emulated;
 use program::{MISSING, Program};
 
 /// A recorded run and the text of its way.
@@ -39,7 +40,9 @@ impl Case {
 /// The program, or a line that says why nothing is tested.
 fn program() -> Option<Program> {
     let program = Program::at_hand();
-    if program.is_none() {
+    if program.is_some() {
+        tell_emulated();
+    } else {
         // A line that cannot be written is no reason to fail.
         let _ = writeln!(io::stderr(), "left out: {MISSING}");
     }

@@ -14,6 +14,7 @@ use compiled::reading::Counts;
 use compiled::run::ARENA;
 use compiled::stored::{Records, file};
 use compiled::way::Asked;
+use differential::processor::tell_emulated;
 use differential::rng::Rng;
 use program::{MISSING, Program};
 
@@ -145,6 +146,7 @@ fn all() -> impl Iterator<Item = (&'static Group, &'static str)> {
 #[test]
 fn texts_are_what_the_recorded_runs_did() {
     let Some(program) = program() else { return };
+    tell_emulated();
     for (group, level) in all() {
         let objdump = fs::read_to_string(file(group, level, "objdump")).expect("it is stored");
         let stored = Records::load(group, level).expect("they are stored");

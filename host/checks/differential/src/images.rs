@@ -66,10 +66,11 @@ impl<S: Formulas> Run<'_, S> {
         let found = match got {
             Ok(pattern) if numbered(&bytes, class) => {
                 self.report.note(name(class), 1);
+                let stored = reloaded(&bytes);
                 told(pattern) == (class, negative)
                     && same_number(&bytes, class, pattern)
-                    && self.write(pattern) == Ok(reloaded(&bytes))
-                    && reloaded(&bytes) == bytes
+                    && self.write(pattern) == Ok(stored)
+                    && stored == bytes
             }
             Ok(pattern) => {
                 self.report.note("without a number", 1);
@@ -112,7 +113,7 @@ impl<S: Formulas> Run<'_, S> {
         bytes: [u8; IMAGE],
         narrowed: impl Fn(&[u8; IMAGE]) -> u128,
     ) {
-        self.report.note("widened by the processor", 1);
+        self.report.note("widened by fld", 1);
         let expected = widen(format, pattern);
         let got = self.read(&bytes, 0);
         let written = self.write(expected);

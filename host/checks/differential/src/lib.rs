@@ -65,5 +65,13 @@ pub fn left_out(why: &str) {
     let _ = writeln!(std::io::stderr(), "left out: {why}");
 }
 
+/// Say where the library is run by an emulator: what is measured then says
+/// nothing about it.
+pub fn tell_unmeasured() {
+    if sleetgate_sys::is_emulated() {
+        eprintln!("the library is run by an emulator here: its times and counts say nothing");
+    }
+}
+
 /// What is said where the r2SMT sources are not at hand.
 pub const NO_ORACLE: &str = "r2SMT sources not at hand: the stored answers are the test";

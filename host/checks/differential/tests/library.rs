@@ -6,8 +6,8 @@ use differential::report::Report;
 use differential::solver::Solver;
 use differential::subject::Library;
 use differential::{
-    NO_ORACLE, checks, classify, images, left_out, lift, oracle, record_lifts, records, stored,
-    values,
+    NO_ORACLE, checks, classify, images, left_out, lift, oracle, processor, record_lifts, records,
+    stored, values,
 };
 use plain::Instruction;
 use sleetgate_sys::untested;
@@ -74,6 +74,7 @@ fn sorts_are_checked_as_the_manual_says() {
 #[test]
 fn images_are_the_processors() {
     assert!(sleetgate_sys::at_hand(), "{}", sleetgate_sys::MISSING);
+    processor::tell_emulated();
     let report = images::run(&Library, 300_000, 2);
     equal(&report);
     for (name, count) in report.notes {

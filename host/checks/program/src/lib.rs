@@ -3,7 +3,7 @@
 use std::env;
 use std::io::{self, ErrorKind, Write};
 use std::path::{Path, PathBuf};
-use std::process::{Command, Stdio};
+use std::process::Stdio;
 
 /// The environment variable that names the program.
 const VARIABLE: &str = "SLEETGATE_X87LIFT";
@@ -13,21 +13,28 @@ const VARIABLE: &str = "SLEETGATE_X87LIFT";
 const DEFAULT: &str = "../../../target/bin/x87lift";
 
 /// What is said where the program is not there.
+#[cfg(target_arch = "x86_64")]
 pub const MISSING: &str = "the program x87lift is not there; build it by: rt check x87lift";
+
+/// What is said where the program is not there, or cannot be run.
+#[cfg(not(target_arch = "x86_64"))]
+pub const MISSING: &str = "the program x87lift, or what runs code for x86-64, is not there; build \
+                           it by: rt check x87lift; install the rest by: bash \
+                           host/tools/emulator.sh";
 
 /// The program, by its path.
 #[derive(Debug, Clone)]
 pub struct Program(PathBuf);
 
 impl Program {
-    /// The program, if it is built.
+    /// The program, if it is built and can be run.
     #[must_use]
     pub fn at_hand() -> Option<Self> {
         let path = env::var_os(VARIABLE).map_or_else(
             || Path::new(env!("CARGO_MANIFEST_DIR")).join(DEFAULT),
             PathBuf::from,
         );
-        path.is_file().then_some(Self(path))
+        emulator::runs(&path).then_some(Self(path))
     }
 
     /// What it writes when it is started with these arguments and no input.
@@ -35,7 +42,7 @@ impl Program {
     /// # Errors
     /// Where it cannot be run, or ends with a status other than 0.
     pub fn said(&self, words: &[&str]) -> io::Result<Vec<u8>> {
-        let done = Command::new(&self.0)
+        let done = emulator::command(&self.0)
             .args(words)
             .stdin(Stdio::null())
             .output()?;
@@ -51,7 +58,7 @@ impl Program {
     /// Where it cannot be run, ends with a status other than 0, or writes
     /// to standard error.
     pub fn listing(&self, input: &[u8]) -> io::Result<Vec<u8>> {
-        let mut child = Command::new(&self.0)
+        let mut child = emulator::command(&self.0)
             .stdin(Stdio::piped())
             .stdout(Stdio::piped())
             .stderr(Stdio::piped())

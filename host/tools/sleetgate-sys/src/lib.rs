@@ -39,6 +39,12 @@ pub fn at_hand() -> bool {
     cfg!(not(no_library))
 }
 
+/// Whether the library is run by an emulator.
+#[must_use]
+pub fn is_emulated() -> bool {
+    cfg!(emulated)
+}
+
 /// Whether the library exports the lifter.
 #[must_use]
 pub fn has_lift() -> bool {
@@ -46,8 +52,16 @@ pub fn has_lift() -> bool {
 }
 
 /// What is said where the library is not there.
+#[cfg(target_arch = "x86_64")]
 pub const MISSING: &str = "the static library of the proved crates was not there when this was \
                            built; make it by `rt staticlib export`, then build this again";
+
+/// What is said where the library is not there, or cannot be run.
+#[cfg(not(target_arch = "x86_64"))]
+pub const MISSING: &str = "the static library of the proved crates, or what runs code for x86-64, \
+                           was not there when this was built; make the library by `rt staticlib \
+                           export`, install the rest by `bash host/tools/emulator.sh`, then \
+                           build this again";
 
 /// What is said where the library has no lifter.
 pub const MISSING_LIFT: &str = "the static library does not export x87_lift";
@@ -177,8 +191,12 @@ pub fn evaluate(
     untested::evaluate(nodes, count, given, column, out)
 }
 
-#[cfg(not(no_library))]
+#[cfg(not(any(no_library, emulated)))]
 #[path = "linked.rs"]
+pub mod untested;
+
+#[cfg(emulated)]
+#[path = "emulated.rs"]
 pub mod untested;
 
 #[cfg(no_library)]

@@ -21,6 +21,7 @@ fn main() -> ExitCode {
         eprintln!("{}", sleetgate_sys::MISSING_LIFT);
         return ExitCode::FAILURE;
     }
+    differential::tell_unmeasured();
     let seconds = std::env::args().nth(1).and_then(|s| s.parse().ok());
     measured::all(seconds.unwrap_or(0.5));
     ExitCode::SUCCESS

@@ -69,6 +69,7 @@ fn main() -> ExitCode {
         eprintln!("{}", sleetgate_sys::MISSING);
         return ExitCode::FAILURE;
     }
+    differential::tell_unmeasured();
     let seconds = std::env::args().nth(1).and_then(|s| s.parse().ok());
     let seconds = seconds.unwrap_or(1.0);
     let solver = Solver::Z3.at_hand();

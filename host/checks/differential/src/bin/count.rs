@@ -21,6 +21,7 @@ fn main() -> ExitCode {
         eprintln!("{}", sleetgate_sys::MISSING_LIFT);
         return ExitCode::FAILURE;
     }
+    differential::tell_unmeasured();
     let words: Vec<String> = std::env::args().skip(1).collect();
     match words.as_slice() {
         [] => counted::table(&counted::CALLS),

@@ -13,7 +13,8 @@ use differential::report::Report;
 use differential::solver::Solver;
 use differential::subject::Library;
 use differential::{
-    NO_ORACLE, checks, classify, images, lift, listings, oracle, record_lifts, records, values,
+    NO_ORACLE, checks, classify, images, lift, listings, oracle, processor, record_lifts, records,
+    values,
 };
 use program::Program;
 
@@ -53,7 +54,10 @@ fn main() -> ExitCode {
             seed,
         )),
         "checks" => Some(checks::run(&Library, size.unwrap_or(CHECKS), seed)),
-        "images" => Some(images::run(&Library, size.unwrap_or(IMAGES), seed)),
+        "images" => {
+            processor::tell_emulated();
+            Some(images::run(&Library, size.unwrap_or(IMAGES), seed))
+        }
         "x87lift" => {
             let Some(program) = Program::at_hand() else {
                 return failure(program::MISSING);
