@@ -248,14 +248,11 @@ forms·families·slot-index κ a r s x y = one
 pub forms·families·takes : Determined Rattle.forms.proofs.families.takes.Reads.Post
 forms·families·takes κ a r s x y = one
 
-pub forms·families·ax : Determined Rattle.forms.proofs.families.ax.Reads.Post
-forms·families·ax κ a r s x y = one
+pub forms·families·ax-in : Determined Rattle.forms.proofs.families.ax_in.Reads.Post
+forms·families·ax-in κ a r s x y = one
 
 pub forms·families·form : Determined Rattle.forms.proofs.families.form.Reads.Post
 forms·families·form κ a r s x y = one
-
-pub forms·names·family : Determined Rattle.forms.proofs.names.family.Reads.Post
-forms·names·family κ a r s x y = one
 
 pub forms·names·family-text : Determined Rattle.forms.proofs.names.family_text.Reads.Post
 forms·names·family-text κ a r s x y = one

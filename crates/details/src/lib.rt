@@ -1,8 +1,6 @@
 // Why an instruction is declined: the detail that a decline with answer 1 has beside it.
 ghost use mathlib.Core.Path.{_≡_};
-ghost use lib.ListN.{take};
-ghost use Rattle.forms.specs.Operands.{widthsOf, axOf};
-ghost use Rattle.forms.specs.Names.{familyOf};
+ghost use Rattle.forms.specs.Operands.{widthsOf};
 ghost use Rattle.details.specs.Takes as takes;
 ghost use Rattle.details.specs.Why.{whyOf, detailOf};
 ghost use Rattle.details.specs.Inside.{whyOne, memoryWhy, bothOf, movedOf, comparedOf, operatedOf, aloneOf, unknownIs, whyAlone, whyOnly, whyPair, whyBy};
@@ -81,16 +79,6 @@ fn place_or(o: Operand, widths: Widths) -> u32
     memory(o, widths)
 }
 
-// Whether the first `n` bytes name the register `ax`.
-fn ax_in(b: [u8; 32], n: usize) -> bool
-    ensures { λ r. ⌜ r ≡ axOf (take n b) ⌝ }
-{
-    if n <= 32 {
-        return forms::families::ax(&b[..n]);
-    }
-    forms::families::ax(&b)
-}
-
 // The register `ax` is taken, or memory.
 fn ax_or(o: Operand, widths: Widths) -> u32
     ensures { λ r. ⌜ r ≡ whyOne (takes.ax-or (widthsOf widths)) o ⌝ }
@@ -98,7 +86,7 @@ fn ax_or(o: Operand, widths: Widths) -> u32
     if o.kind == 0 {
         let t = o.text;
         let b = t.bytes;
-        if ax_in(b, t.len) {
+        if forms::families::ax_in(b, t.len) {
             return 0;
         }
         return WRONG_KIND;
@@ -290,24 +278,13 @@ fn among(family: Family, ops: [Operand; 3], count: usize) -> u32
     WRONG_COUNT
 }
 
-// What the first `n` bytes stand for, as a mnemonic.
-fn family_in(b: [u8; 32], n: usize) -> Family
-    ensures { λ r. ⌜ r ≡ familyOf (take n b) ⌝ }
-{
-    if n <= 32 {
-        return forms::names::family(&b[..n]);
-    }
-    forms::names::family(&b)
-}
-
 // The detail of an instruction: the first that holds of 21 unknown name, 22 wrong number of operands, 23 an operand of the wrong kind, 24 address unknown, 25 width not taken; 0 where none does.
 pub fn why(insn: Instruction) -> u32
     ensures { λ r. ⌜ r ≡ whyOf insn ⌝ }
 {
     let ops = insn.operands;
     let m = insn.mnemonic;
-    let b = m.bytes;
-    among(family_in(b, m.len), ops, insn.count)
+    among(forms::names::family_text(m), ops, insn.count)
 }
 
 // The detail that stands beside an answer's number: that of a decline beside 1, and 0 beside every other.

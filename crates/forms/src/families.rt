@@ -259,7 +259,7 @@ fn classify_conditional_move(ops: [Operand; 3], count: usize, condition: X87Cond
 }
 
 // Whether the first `n` bytes name the register `ax`.
-fn ax_in(b: [u8; 32], n: usize) -> bool
+pub fn ax_in(b: [u8; 32], n: usize) -> bool
     ensures { λ r. ⌜ r ≡ axOf (take n b) ⌝ }
 {
     if n <= 32 {
@@ -268,8 +268,7 @@ fn ax_in(b: [u8; 32], n: usize) -> bool
     ax(&b)
 }
 
-// Whether a text names the register `ax`.
-pub fn ax(s: &[u8]) -> bool
+fn ax(s: &[u8]) -> bool
     ensures { λ r. ⌜ r ≡ axOf (now (s .entry)) ⌝ }
 {
     let t = texts::trim(s);

@@ -336,7 +336,7 @@ fn key(s: &[u8]) -> u64
 }
 
 // What a mnemonic stands for.
-pub fn family(s: &[u8]) -> Family
+fn family(s: &[u8]) -> Family
     ensures { λ r. ⌜ r ≡ familyOf (now (s .entry)) ⌝ }
 {
     let t = texts::trim(s);

@@ -187,13 +187,7 @@ pub fn exchange(nodes: &mut [u64], s: State, index: u32) -> Done
 }
 
 // A decline forgets the stack and says why, 1 or 2, where, and with which detail.
-pub fn decline_x87(
-    statements: &mut [u64],
-    s: State,
-    why: u32,
-    address: u64,
-    detail: u32,
-) -> Done
+pub fn decline_x87(statements: &mut [u64], s: State, why: u32, address: u64, detail: u32) -> Done
     ensures { λ r. ⌜ Told (declineX87Of s why address detail) (r .state) (r .answer) (now (statements .entry)) (now (statements .exit)) ⌝ }
 {
     let t = lists::havoc(s);

@@ -3,14 +3,14 @@ use borrow.Author.Needs.{needs}
 use Rattle.details.proofs.why.Statement.{statement}
 use Rattle.details.proofs.why.Tie as tie
 
-family-in-requires : tie.Need-family-in-requires
-family-in-requires c κs = search needs
+family-text-requires : tie.Need-family-text-requires
+family-text-requires c κs = search needs
 
 among-requires : tie.Need-among-requires
 among-requires c κs = search needs
 
 returns : tie.Need-returns
-returns c = rw (by-family _, ← c .before .family-in .ensures) (c .among .ensures)
+returns c = rw (by-family _, ← c .before .family-text .ensures) (c .among .ensures)
 
 pub why-spec : {M : Type 1} → statement M
-why-spec = tie.close (tie.spec family-in-requires among-requires returns)
+why-spec = tie.close (tie.spec family-text-requires among-requires returns)
