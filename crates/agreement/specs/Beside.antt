@@ -3,11 +3,12 @@
 -- but a place that is named and beside a decline its detail, for whatever bytes, records and lists the call is given; a call of lift on a record that was lifted,
 -- declined or not, tells the next place and 1
 use mathlib.Core.Path.{_≡_, refl}
-use mathlib.Core.Bool.{Bool, true, false, cond}
+use mathlib.Core.Bool.{Bool, true, false, cond, _&&_}
 use mathlib.Core.List.{List, [], _∷_}
 use Prim.Native.Nat.{ℕ}
-use lib.Dec.{leb}
-use lib.ListN.{replicate}
+use lib.Dec.{eqb, leb}
+use lib.ListN.{take, replicate}
+use Rattle.texts.specs.Bytes.{all}
 use Rattle.forms.specs.Classify.{classifyOf}
 use Rattle.forms.specs.Effects.{effectOf}
 use Rattle.forms.specs.Numbers.{numberOf, fieldsOf, effectNumber, effectFields}
@@ -23,12 +24,14 @@ use Rattle.image.specs.Answers.{readOf}
 use Rattle.image.specs.declared.Found.{Found}
 use Rattle.image.specs.declared.Found.the-variants.{Pattern, TooWide, Short}
 use Rattle.export.specs.Flat.{insnOf, atLeast}
-use Rattle.export.specs.Answers.{Said, tooShort, classified, affected, readInto}
-use Rattle.export.specs.Lifts.{liftedIn}
-use Rattle.export.specs.Steps.{Stepped, toldOf, stepOf, steppedOf}
+use Rattle.export.specs.Answers.{Said, tooShort, classified, reasoned, affected, readInto}
+use Rattle.details.specs.Why.{detailOf}
+use Rattle.lifter.specs.Lift.{liftOf}
+use Rattle.export.specs.Lifts.{Lifted, smallIs, stateIn, done, liftedIn, liftedOf, unchanged}
+use Rattle.export.specs.Steps.{Stepped, calledOf, toldOf, stepOf, steppedOf}
 use Rattle.export.specs.Values.{wide, foundSaid}
 
--- Beside a number other than 0, k zeros; beside a number over 2, k zeros; or a place and k zeros
+-- Beside a number other than 0, k zeros; or a place and k zeros
 abbrev pub Zeros : ℕ → Said → Type 0
 Zeros k x = (x .number ≡ 0 → ⊥) → x .words ≡ replicate k 0
 
@@ -64,6 +67,31 @@ classify-beside flat = either (Zeros 8) (atLeast 177 flat) _ (tooShort 8) (form-
 pub effect-beside : (flat : List ℕ) → Zeros 7 (affected flat)
 unfolding affected
 effect-beside flat = either (Zeros 7) (atLeast 177 flat) _ (tooShort 7) (effect-zeros (effectOf (insnOf flat))) (zeros 7)
+
+-- WHY: the detail stands beside 1 alone
+pub why-beside : (flat : List ℕ) → eqb (reasoned flat .number) 1 ≡ false → reasoned flat .words ≡ 0 ∷ []
+unfolding reasoned detailOf
+why-beside flat = way (atLeast 177 flat)
+  where
+    said : Said
+    said = record { number = numberOf (classifyOf (insnOf flat)); words = detailOf (numberOf (classifyOf (insnOf flat))) (insnOf flat) ∷ [] }
+
+    way : (b : Bool) → eqb (cond b said (tooShort 1) .number) 1 ≡ false → cond b said (tooShort 1) .words ≡ 0 ∷ []
+    way true e = rw e
+    way false e = refl
+
+-- THE LIFT OF AN INSTRUCTION'S BYTES: likewise
+pub lift-beside : (flat s n m : List ℕ) → eqb (calledOf flat s n m .lifted .answer) 1 ≡ false → calledOf flat s n m .told ≡ 0 ∷ []
+unfolding calledOf liftedOf liftedIn detailOf
+lift-beside flat s n m = way (atLeast 177 flat && atLeast 13 s) (all smallIs (take 13 s))
+  where
+    given : Lifted
+    given = done (insnOf flat) (liftOf (stateIn s) (insnOf flat) n m) s n m
+
+    way : (b c : Bool) → let x = cond b (cond c given (unchanged 5 s n m)) (unchanged 10 s n m) in eqb (x .answer) 1 ≡ false → x .detail ∷ [] ≡ 0 ∷ []
+    way true true e = rw e
+    way true false e = refl
+    way false c e = refl
 
 -- THE READER OF RECORDS
 pub read-beside : (t : Taken) (flat : List ℕ) → (readInto t flat .number ≡ 0 → ⊥) → PlaceAndZeros 1 (readInto t flat .words)

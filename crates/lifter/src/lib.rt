@@ -124,23 +124,22 @@ fn ample(words: usize, count: u32, more: u32) -> bool
     (count as u64) + (more as u64) <= (lists::room(words) as u64)
 }
 
-// The instruction, if the whole of it fits. Where the room is ample for any form there is nothing to find out first.
+// An instruction without a detail, if the whole of it fits. Where the room is ample for any form there is nothing to find out first.
 fn fit(
     nodes: &mut [u64],
     statements: &mut [u64],
     s: State,
     classified: Classified,
-    detail: u32,
     site: Site,
 ) -> Done
-    ensures { λ r. ⌜ Does (fittingOf (loweredOf s classified detail site) s (now (nodes .entry)) (now (statements .entry))) (r .state) (r .answer) (now (nodes .entry)) (now (nodes .exit)) (now (statements .entry)) (now (statements .exit)) ⌝ }
+    ensures { λ r. ⌜ Does (fittingOf (loweredOf s classified 0 site) s (now (nodes .entry)) (now (statements .entry))) (r .state) (r .answer) (now (nodes .entry)) (now (nodes .exit)) (now (statements .entry)) (now (statements .exit)) ⌝ }
 {
     if ample(nodes.len(), s.nodes, MOST_NODES) {
         if ample(statements.len(), s.statements, MOST_STATEMENTS) {
-            return lower(nodes, statements, s, classified, detail, site);
+            return lower(nodes, statements, s, classified, 0, site);
         }
     }
-    fit_tight(nodes, statements, s, classified, detail, site)
+    fit_tight(nodes, statements, s, classified, 0, site)
 }
 
 // Whether an answer of `classify` is the decline.
@@ -195,7 +194,7 @@ pub fn lift(nodes: &mut [u64], statements: &mut [u64], s: State, insn: Instructi
         if declined(classified) {
             return decline(nodes, statements, s, insn);
         }
-        let done = fit(nodes, statements, s, classified, 0, memory::site_of(insn));
+        let done = fit(nodes, statements, s, classified, memory::site_of(insn));
         let state = done.state;
         return Lifted {
             state,
