@@ -16,7 +16,15 @@ const EDITS: &str = "edits";
 
 /// The crates whose laws in `proofs/` the theorems rest on; those of the
 /// others are for their own code.
-const WITH_LAWS: [&str; 6] = ["lists", "exprs", "memory", "moves", "lifter", "agreement"];
+const WITH_LAWS: [&str; 7] = [
+    "details",
+    "lists",
+    "exprs",
+    "memory",
+    "moves",
+    "lifter",
+    "agreement",
+];
 
 /// Programs, and what cites the contracts of functions.
 const LEFT_OUT: [&str; 2] = ["replay", "x87lift"];
