@@ -242,20 +242,20 @@ words·eight κ a r s x y = one
 pub forms·classify : Determined Rattle.forms.proofs.classify.Reads.Post
 forms·classify κ a r s x y = one
 
-pub forms·families·slot-index : Determined Rattle.forms.proofs.families.slot_index.Reads.Post
-forms·families·slot-index κ a r s x y = one
+pub forms·slot-index : Determined Rattle.forms.proofs.families.slot_index.Reads.Post
+forms·slot-index κ a r s x y = one
 
-pub forms·families·takes : Determined Rattle.forms.proofs.families.takes.Reads.Post
-forms·families·takes κ a r s x y = one
+pub forms·takes : Determined Rattle.forms.proofs.families.takes.Reads.Post
+forms·takes κ a r s x y = one
 
-pub forms·families·ax-in : Determined Rattle.forms.proofs.families.ax_in.Reads.Post
-forms·families·ax-in κ a r s x y = one
+pub forms·ax-in : Determined Rattle.forms.proofs.families.ax_in.Reads.Post
+forms·ax-in κ a r s x y = one
 
-pub forms·families·form : Determined Rattle.forms.proofs.families.form.Reads.Post
-forms·families·form κ a r s x y = one
+pub forms·form : Determined Rattle.forms.proofs.families.form.Reads.Post
+forms·form κ a r s x y = one
 
-pub forms·names·family-text : Determined Rattle.forms.proofs.names.family_text.Reads.Post
-forms·names·family-text κ a r s x y = one
+pub forms·family-text : Determined Rattle.forms.proofs.names.family_text.Reads.Post
+forms·family-text κ a r s x y = one
 
 pub forms·x87-effect : Determined Rattle.forms.proofs.x87_effect.Reads.Post
 forms·x87-effect κ a r s x y = one
