@@ -4,7 +4,7 @@ use mathlib.Core.List.{List}
 use Prim.Native.Nat.{ℕ}
 use denote.Ref.{now}
 use Rattle.listing.specs.Run.{runOf}
-use Rattle.agreement.specs.Runs.{Held, called, call-is}
+use Rattle.agreement.specs.Runs.{called, call-is}
 use Rattle.agreement.specs.Calls.{Words, Lift, LiftRecord, promised, made}
 use Rattle.agreement.specs.Program.{held}
 

@@ -1,11 +1,10 @@
 -- THEOREM 15: NO DECLINE IS WITHOUT A REASON, AND NO MODELLED INSTRUCTION HAS ONE.
 -- Of an instruction that is refused neither with 3 nor with 4, `classify` declines exactly if one of the five reasons holds, each of which is said without
 -- the classifier, of one table (details/specs/Takes and Why), and the detail that is given is the first of them
-use mathlib.Core.Path.{_≡_, refl, sym, ap, subst, _∙_}
+use mathlib.Core.Path.{_≡_, refl, sym, ap, _∙_}
 use mathlib.Core.Bool.{Bool, true, false, cond, false≢true, _&&_}
 use Prim.Native.Nat.{ℕ}
-use native.Mathlib.Omega.{arith}
-use lib.Dec.{leb, eqb}
+use lib.Dec.{leb}
 use lib.ListN.{take}
 use Rattle.texts.specs.Bytes.{all, bytesOf, validOf}
 use Rattle.forms.specs.Operands.{rangedIs, spelledIs, operandsOf}
@@ -17,8 +16,7 @@ use Rattle.forms.specs.declared.Instruction.{Instruction}
 use Rattle.forms.specs.declared.Classified.{Classified}
 use Rattle.forms.specs.declared.Classified.the-variants.{Modelled, Declined, BadText, BadOperands}
 use Rattle.details.specs.Why.{unknownName, wrongCount, wrongKind, unknownAddress, wrongWidth, whyOf}
-use Rattle.details.specs.Inside.{whyBy}
-use Rattle.details.proofs.Families.{by-family}
+use Rattle.details.proofs.Shapes.{by-shape}
 pub mod Families
 pub mod Said
 use Families.{declinedIs, someIs, exactly}
@@ -66,7 +64,7 @@ formed i = way (leb (i .count) 3 && all rangedIs (take (i .count) (i .operands))
 
 -- .. and is declined exactly if it has a detail
 tested : (i : Instruction) → leb (numberOf (classifyOf i)) 1 ≡ true → declinedIs (classifyOf i) ≡ someIs (whyOf i)
-tested i h = rw (formed i h, by-family i) (exactly (familyOf (bytesOf (i .mnemonic))) (i .count) (i .operands))
+tested i h = rw (formed i h, by-shape i) (exactly (familyOf (bytesOf (i .mnemonic))) (i .count) (i .operands))
 
 declined-so : (c : Classified) → declinedIs c ≡ true → c ≡ Declined
 declined-so (Modelled f) h = absurd (false≢true h)

@@ -248,25 +248,27 @@ forms·slot-index κ a r s x y = one
 pub forms·takes : Determined Rattle.forms.proofs.families.takes.Reads.Post
 forms·takes κ a r s x y = one
 
-pub forms·ax-in : Determined Rattle.forms.proofs.families.ax_in.Reads.Post
-forms·ax-in κ a r s x y = one
+pub forms·ax : Determined Rattle.forms.proofs.families.ax.Reads.Post
+forms·ax κ a r s x y = one
 
-pub forms·form : Determined Rattle.forms.proofs.families.form.Reads.Post
-forms·form κ a r s x y = one
-
-pub forms·family-text : Determined Rattle.forms.proofs.names.family_text.Reads.Post
-forms·family-text κ a r s x y = one
+pub forms·shape : Determined Rattle.forms.proofs.names.shape.Reads.Post
+forms·shape κ a r s x y = one
 
 pub forms·x87-effect : Determined Rattle.forms.proofs.x87_effect.Reads.Post
 forms·x87-effect κ a r s x y = one
 
--- records
+-- details
 
 pub details·why : Determined Rattle.details.proofs.why.Reads.Post
 details·why κ a r s x y = one
 
 pub details·detail : Determined Rattle.details.proofs.detail.Reads.Post
 details·detail κ a r s x y = one
+
+pub details·beside : Determined Rattle.details.proofs.beside.Reads.Post
+details·beside κ a r s x y = one
+
+-- records
 
 pub records·refusal-number : Determined Rattle.records.proofs.refusal_number.Reads.Post
 records·refusal-number κ a r s x y = one
@@ -519,6 +521,9 @@ moves·push-memory κ a r s x y = does r s
 
 pub lifter·lift : Determined₂ Rattle.lifter.proofs.lift.Reads.Post (λ κ x. now (x .0)) (λ κ x. now (x .1 .0))
 lifter·lift κ a r s x y = lift r s
+
+pub lifter·lift-classified : Determined₂ Rattle.lifter.proofs.lift_classified.Reads.Post (λ κ x. now (x .0)) (λ κ x. now (x .1 .0))
+lifter·lift-classified κ a r s x y = does r s
 
 -- image
 

@@ -1,2 +1,2 @@
 pub mod Operands
-pub mod Families
+pub mod Shapes

@@ -11,6 +11,8 @@ use Rattle.texts.specs.declared.Place.{Place}
 use Rattle.texts.specs.declared.Place.the-variants.{At, Nowhere}
 use Rattle.forms.specs.declared.Operand.{Operand}
 use Rattle.forms.specs.declared.Instruction.{Instruction}
+use Rattle.forms.specs.declared.Classified.{Classified}
+use Rattle.forms.specs.declared.Classified.the-variants.{Modelled, Declined, BadText, BadOperands}
 use Rattle.forms.specs.Operands.{axOf, among, noOperand}
 use Rattle.details.specs.Takes.{Registers, no-register, places, st0-alone, ax-alone, Takes, anything, only, Row, table}
 
@@ -116,6 +118,17 @@ whyOf i =
     (cond (wrongWidth i) 25
     0))))
 
--- WHAT IS GIVEN BESIDE AN ANSWER: the detail beside 1, and 0 beside every other
+-- THE DETAIL BESIDE AN ANSWER OF `classify`: that of a decline, and 0 of any other
+unfoldable pub detailFor : Classified → Instruction → ℕ
+detailFor (Modelled form) i = 0
+detailFor Declined i = whyOf i
+detailFor BadText i = 0
+detailFor BadOperands i = 0
+
+-- a detail stands beside answer 1 alone
+abbrev pub besideOf : ℕ → ℕ → ℕ
+besideOf answer detail = cond (eqb answer 1) detail 0
+
+-- WHAT IS GIVEN BESIDE AN ANSWER'S NUMBER: the detail beside 1, and 0 beside every other
 unfoldable pub detailOf : ℕ → Instruction → ℕ
-detailOf answer i = cond (eqb answer 1) (whyOf i) 0
+detailOf answer i = besideOf answer (whyOf i)

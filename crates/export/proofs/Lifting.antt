@@ -1,6 +1,6 @@
 -- What the lifter and the state's words come to, joined.
 use mathlib.Core.Path.{_≡_, refl, ap, _∙_}
-use mathlib.Core.Bool.{true, false, true≢false, false≢true}
+use mathlib.Core.Bool.{Bool, true, false, cond, true≢false, false≢true}
 use mathlib.Core.List.{List, [], _∷_}
 use Prim.Native.Nat.{ℕ, _≤_, _<_}
 use lib.Dec.{leb}
@@ -13,11 +13,16 @@ use Rattle.records.specs.Numbers.{recordIs, numberOf, placeOf}
 use Rattle.records.specs.declared.Taken.{Taken}
 use Rattle.records.specs.declared.Outcome.{Outcome}
 use Rattle.records.specs.declared.Outcome.the-variants.{Record, End, Refused}
-use Rattle.details.specs.Why.{detailOf}
-use Rattle.lifter.specs.Lift as lifter
-use Rattle.lifter.specs.Lift.{liftOf}
+use Rattle.forms.specs.declared.Classified.{Classified}
+use Rattle.forms.specs.Classify.{classifyOf}
+use Rattle.lists.specs.Steps.{Built, Does}
+use Rattle.memory.specs.declared.Site.{Site}
+use Rattle.memory.specs.Site.{siteOf}
+use Rattle.details.specs.Why.{detailFor, besideOf}
+use Rattle.lifter.specs.Lift.{placedOf}
+use Rattle.lifter.proofs.Answers.{lift-told, placed-lift}
 use Rattle.export.specs.Flat.{insnOf, laid}
-use Rattle.export.specs.Lifts.{Lifted, Lifts, liftedIn, liftedOf, unchanged, smallIs, stateIn, keptIf}
+use Rattle.export.specs.Lifts.{Lifted, Lifts, told, placedIn, liftedIn, liftedOf, unchanged, smallIs, stateIn, keptIf}
 use Rattle.export.specs.Steps.{Steps, calledOf, stepOf, steppedOf, toldOf}
 use Rattle.export.proofs.Calls.{tells, untold}
 
@@ -25,21 +30,38 @@ use Rattle.export.proofs.Calls.{tells, untold}
 stays : (r : ℕ) (s n t : List ℕ) → Lifts (unchanged r s n t) r s n t
 stays r s n t = record { answer = refl; state = refl; nodes = refl; statements = refl }
 
+-- a lift over the words of a state, and one whose words are too wide
+module _ (c : Classified) (d : ℕ) (site : Site) (s n t : List ℕ) where
+  pub lifts : all smallIs (take 13 s) ≡ true → (x y : State) (r : ℕ) (s′ n′ t′ : List ℕ) → x ≡ stateIn s
+      → Does (placedOf x c d site n t) y r n n′ t t′ → s′ ≡ keptIf (leb r 2) y s → Lifts (placedIn c d site s n t) r s′ n′ t′
+  lifts e x y r s′ n′ t′ p q w = rw (e, ← p) (record { answer = q .number; state = w ∙ rw (q .number, q .state); nodes = q .list; statements = q .said })
+
+  pub too-wide : all smallIs (take 13 s) ≡ false → Lifts (placedIn c d site s n t) 5 s n t
+  too-wide e = rw e (stays 5 s n t)
+
+  -- the detail stands beside answer 1 alone
+  placed-detail : besideOf (placedIn c d site s n t .answer) d ≡ placedIn c d site s n t .detail
+  placed-detail = way (all smallIs (take 13 s)) (placedOf (stateIn s) c d site n t)
+    where
+      way : (e : Bool) (b : Built) → besideOf (cond e (told (besideOf (b .val) d) b s n t) (unchanged 5 s n t) .answer) d ≡ cond e (told (besideOf (b .val) d) b s n t) (unchanged 5 s n t) .detail
+      way true b = refl
+      way false b = refl
+
 -- what a lift over the words of a state gives: the answer and what is left, and the detail
 abbrev pub Given : Lifted → ℕ → ℕ → List ℕ → List ℕ → List ℕ → Type 0
 Given x r d s n t = Lifts x r s n t × (d ≡ x .detail)
 
 module _ (i : Instruction) (s n t : List ℕ) where
-  pub lifts : all smallIs (take 13 s) ≡ true → (x y : State) (r d : ℕ) (s′ n′ t′ : List ℕ) → x ≡ stateIn s
-      → lifter.Lifts (liftOf x i n t) i y r d n n′ t t′ → s′ ≡ keptIf (leb r 2) y s → Given (liftedIn i s n t) r d s′ n′ t′
+  placed-in : placedIn (classifyOf i) (detailFor (classifyOf i) i) (siteOf i) s n t ≡ liftedIn i s n t
   unfolding liftedIn
-  lifts e x y r d s′ n′ t′ p l w =
-      let q = l .does in
-      rw (e, ← p) (record { answer = q .number; state = w ∙ rw (q .number, q .state); nodes = q .list; statements = q .said }, l .detail-is ∙ ap (λ (a : ℕ). detailOf a i) (q .number))
+  placed-in = rw (placed-lift (stateIn s) n t i, lift-told (stateIn s) n t i)
 
-  pub too-wide : all smallIs (take 13 s) ≡ false → Given (liftedIn i s n t) 5 0 s n t
-  unfolding liftedIn
-  too-wide e = rw e (stays 5 s n t, refl)
+  -- an instruction that is classified first
+  pub gives : (c : Classified) (d : ℕ) (site : Site) → c ≡ classifyOf i → d ≡ detailFor c i → site ≡ siteOf i → (r w : ℕ) (s′ n′ t′ : List ℕ)
+      → Lifts (placedIn c d site s n t) r s′ n′ t′ → w ≡ besideOf r d → Given (liftedIn i s n t) r w s′ n′ t′
+  gives c d site p q e r w s′ n′ t′ l b =
+      let x = ap (λ (c : Classified). placedIn c (detailFor c i) (siteOf i) s n t) p ∙ placed-in in
+      rw (← x, ← e, ← q) (l, b ∙ rw (l .answer) (placed-detail c d site s n t))
 
 -- an instruction's bytes: lifted, or too few of them or of the state's words; and too few words to tell
 module _ (f s n t out : List ℕ) where

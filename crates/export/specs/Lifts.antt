@@ -10,8 +10,10 @@ use Rattle.lists.specs.Rows.{wrote}
 use Rattle.lists.specs.Steps.{Built}
 use Rattle.lists.specs.declared.State.{State}
 use Rattle.forms.specs.declared.Instruction.{Instruction}
-use Rattle.details.specs.Why.{detailOf}
-use Rattle.lifter.specs.Lift.{liftOf}
+use Rattle.forms.specs.declared.Classified.{Classified}
+use Rattle.memory.specs.declared.Site.{Site}
+use Rattle.details.specs.Why.{besideOf, detailOf}
+use Rattle.lifter.specs.Lift.{placedOf, liftOf}
 use Rattle.export.specs.Flat.{insnOf, laid, atLeast}
 
 -- a number of 32 bits
@@ -54,20 +56,28 @@ unchanged r s n t = record { answer = r; detail = 0; state = s; nodes = n; state
 abbrev pub keptIf : Bool → State → List ℕ → List ℕ
 keptIf b s w = cond b (laid w 0 (stateWords s)) w
 
--- a lift's rows and its state
-abbrev pub done : Instruction → Built → List ℕ → List ℕ → List ℕ → Lifted
-done i b s n t =
+-- a lift's rows and its state, and the detail
+abbrev pub told : ℕ → Built → List ℕ → List ℕ → List ℕ → Lifted
+told d b s n t =
     record {
       answer = b .val;
-      detail = detailOf (b .val) i;
+      detail = d;
       state = keptIf (leb (b .val) 2) (b .st) s;
       nodes = wrote n (b .ns);
       statements = wrote t (b .ss);
     }
 
+abbrev pub done : Instruction → Built → List ℕ → List ℕ → List ℕ → Lifted
+done i b s n t = told (detailOf (b .val) i) b s n t
+
 -- a lift over a state of 13 words: 5 where one of them is no number of 32 bits
 unfoldable pub liftedIn : Instruction → List ℕ → List ℕ → List ℕ → Lifted
 liftedIn i s n t = cond (all smallIs (take 13 s)) (done i (liftOf (stateIn s) i n t) s n t) (unchanged 5 s n t)
+
+-- .. of what `classify` answered, with a detail
+abbrev pub placedIn : Classified → ℕ → Site → List ℕ → List ℕ → List ℕ → Lifted
+placedIn c d site s n t =
+    cond (all smallIs (take 13 s)) (told (besideOf (placedOf (stateIn s) c d site n t .val) d) (placedOf (stateIn s) c d site n t) s n t) (unchanged 5 s n t)
 
 -- .. of the instruction in the first 177 bytes: 10 where a slice is too short
 unfoldable pub liftedOf : List ℕ → List ℕ → List ℕ → List ℕ → Lifted

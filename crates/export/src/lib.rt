@@ -9,11 +9,13 @@ ghost use lib.ListN.{length};
 ghost use Rattle.records.specs.Format.{takenAt};
 ghost use lib.Dec.{leb};
 ghost use Rattle.export.specs.Flat.{laid};
-ghost use Rattle.export.specs.Lifts.{Lifts, liftedIn, keptIf};
+ghost use Rattle.export.specs.Lifts.{Lifts, placedIn, keptIf};
 ghost use Rattle.export.specs.Steps.{Steps, calledOf, steppedOf, toldOf};
 ghost use Rattle.export.specs.Answers.{Classifies, Reasons, Affects, ReadsRecord, wroteIf};
+use forms::Classified;
 use forms::Instruction;
 use lists::State;
+use memory::Site;
 
 // Writes words to the front of a lent slice.
 pub(crate) fn lay(out: &mut [u64], w: &[u64])
@@ -64,7 +66,11 @@ pub extern "C" fn x87_why(flat: &[u8], out: &mut [u64]) -> u32
         if 177 <= flat.len() {
             let insn = flat::read(flat);
             let answer = answers::number(forms::classify(insn));
-            out[0] = details::detail(answer, insn) as u64;
+            if answer == 1 {
+                out[0] = details::why(insn) as u64;
+                return 1;
+            }
+            out[0] = 0;
             return answer;
         }
         out[0] = 0;
@@ -153,40 +159,29 @@ fn keep(state: &mut [u64], s: State, answer: u32)
     }
 }
 
-// An answer's number, and its detail.
-struct Answer {
-    number: u32,
-    detail: u32,
-}
-
-// Lifts an instruction over a state of 13 words and two lists of rows of four.
+// Lifts what `classify` answered over a state of 13 words and two lists of rows of four.
 fn lift_in(
-    insn: Instruction,
+    classified: Classified,
+    detail: u32,
+    site: Site,
     state: &mut [u64],
     nodes: &mut [u64],
     statements: &mut [u64],
-) -> Answer
+) -> u32
     requires { ⌜ 13 ≤ length (now state) ⌝ }
-    ensures { λ r. ⌜ Lifts (liftedIn insn (now (state .entry)) (now (nodes .entry)) (now (statements .entry))) (r .number) (now (state .exit)) (now (nodes .exit)) (now (statements .exit)) × (r .detail ≡ liftedIn insn (now (state .entry)) (now (nodes .entry)) (now (statements .entry)) .detail) ⌝ }
+    ensures { λ r. ⌜ Lifts (placedIn classified detail site (now (state .entry)) (now (nodes .entry)) (now (statements .entry))) r (now (state .exit)) (now (nodes .exit)) (now (statements .exit)) ⌝ }
 {
     if state::small(state) {
         let s = state::read(state);
-        let done = lifter::lift(nodes, statements, s, insn);
+        let done = lifter::lift_classified(nodes, statements, s, classified, detail, site);
         let next = done.state;
-        let number = done.answer;
-        keep(state, next, number);
-        return Answer {
-            number,
-            detail: done.detail,
-        };
+        keep(state, next, done.answer);
+        return done.answer;
     }
-    Answer {
-        number: 5,
-        detail: 0,
-    }
+    5
 }
 
-// Lifts the instruction that stands in the first 177 bytes, and tells the detail of a decline.
+// Lifts the instruction that stands in the first 177 bytes, and tells the detail of a decline. It is classified here, where it lies: to hand it on by value is to copy all of it.
 #[no_mangle]
 pub extern "C" fn x87_lift(
     flat: &[u8],
@@ -201,9 +196,12 @@ pub extern "C" fn x87_lift(
         if 177 <= flat.len() {
             if 13 <= state.len() {
                 let insn = flat::read(flat);
-                let answer = lift_in(insn, state, nodes, statements);
-                out[0] = answer.detail as u64;
-                return answer.number;
+                let classified = forms::classify(insn);
+                let detail = details::detail(classified, insn);
+                let site = memory::site_of(insn);
+                let answer = lift_in(classified, detail, site, state, nodes, statements);
+                out[0] = details::beside(answer, detail) as u64;
+                return answer;
             }
         }
         out[0] = 0;
@@ -213,12 +211,12 @@ pub extern "C" fn x87_lift(
 }
 
 // Tells the three words beside a record's answer.
-fn tell(out: &mut [u64], answer: Answer, next: usize, at: usize)
+fn tell(out: &mut [u64], answer: u32, detail: u32, next: usize, at: usize)
     requires { ⌜ 3 ≤ length (now out) ⌝ }
-    ensures { λ _. ⌜ now (out .exit) ≡ laid (now (out .entry)) 0 (toldOf (answer .number) (answer .detail) next at) ⌝ }
+    ensures { λ _. ⌜ now (out .exit) ≡ laid (now (out .entry)) 0 (toldOf answer detail next at) ⌝ }
 {
-    if answer.number <= 2 {
-        let w = [next as u64, 1, answer.detail as u64];
+    if answer <= 2 {
+        let w = [next as u64, 1, detail as u64];
         lay(out, &w);
     } else {
         let w = [at as u64, 0, 0];
@@ -243,9 +241,12 @@ fn lift_record_in(
     let insn = t.insn;
     let next = answers::place(o);
     if answers::is_record(o) {
-        let answer = lift_in(insn, state, nodes, statements);
-        tell(out, answer, next, at);
-        return answer.number;
+        let classified = forms::classify(insn);
+        let detail = details::detail(classified, insn);
+        let site = memory::site_of(insn);
+        let answer = lift_in(classified, detail, site, state, nodes, statements);
+        tell(out, answer, details::beside(answer, detail), next, at);
+        return answer;
     }
     let w = [next as u64, 0, 0];
     lay(out, &w);

@@ -1,6 +1,7 @@
 pub mod Operands
 pub mod Names
 pub mod Families
+pub mod Shapes
 pub mod Classify
 pub mod Effects
 pub mod Numbers

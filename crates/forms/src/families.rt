@@ -259,7 +259,7 @@ fn classify_conditional_move(ops: [Operand; 3], count: usize, condition: X87Cond
 }
 
 // Whether the first `n` bytes name the register `ax`.
-pub fn ax_in(b: [u8; 32], n: usize) -> bool
+fn ax_in(b: [u8; 32], n: usize) -> bool
     ensures { λ r. ⌜ r ≡ axOf (take n b) ⌝ }
 {
     if n <= 32 {
@@ -268,7 +268,8 @@ pub fn ax_in(b: [u8; 32], n: usize) -> bool
     ax(&b)
 }
 
-fn ax(s: &[u8]) -> bool
+// Whether a text names the register `ax`.
+pub fn ax(s: &[u8]) -> bool
     ensures { λ r. ⌜ r ≡ axOf (now (s .entry)) ⌝ }
 {
     let t = texts::trim(s);
@@ -441,7 +442,7 @@ fn classify_arith(
 }
 
 // What a name's family makes of the operands below the count.
-pub fn form(family: Family, ops: [Operand; 3], count: usize) -> Classified
+pub(crate) fn form(family: Family, ops: [Operand; 3], count: usize) -> Classified
     ensures { λ r. ⌜ r ≡ formOf family (operandsOf count ops) ⌝ }
 {
     match family {

@@ -184,6 +184,31 @@ pub enum Family {
     Unknown,
 }
 
+// The one operand that a name takes, if any: a place, a place or memory, memory, `ax` or memory.
+pub enum One {
+    Nothing,
+    Place,
+    PlaceOr(Widths),
+    Memory(Widths),
+    AxOr(Widths),
+}
+
+// The two operands that a name takes, if any: anything and a place, place 0 and a place, two places.
+pub enum Two {
+    Nothing,
+    Second,
+    TopAnd,
+    Places,
+}
+
+// What a name takes: whether there is such a name, whether it stands alone, and the operands that it takes.
+pub struct Shape {
+    pub known: bool,
+    pub alone: bool,
+    pub one: One,
+    pub two: Two,
+}
+
 // The answer of `classify`: a form, the Rust's decline, or the refusal of a text (3) or of an operand (4).
 pub enum Classified {
     Modelled(Form),

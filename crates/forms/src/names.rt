@@ -3,8 +3,11 @@ use super::Family;
 use super::Form;
 use super::MemFormat;
 use super::MemorySource;
+use super::One;
 use super::RoundingMode;
+use super::Shape;
 use super::StoreSpec;
+use super::Two;
 use super::UnaryOp;
 use super::Widths;
 use super::X87Arith;
@@ -15,6 +18,7 @@ ghost use mathlib.Core.List.{map};
 ghost use lib.ListN.{length, take};
 ghost use Rattle.texts.specs.Bytes.{bytesOf};
 ghost use Rattle.forms.specs.Names.{names, familyOf};
+ghost use Rattle.forms.specs.Shapes.{shapedOf, onlyOf, shapeOf};
 ghost use Rattle.forms.specs.Inside.Keys.{keyOf, codeIn, familyIn, nameEntry};
 ghost use Rattle.forms.specs.Inside.Codes.{plainFrom, loadFrom, pinnedOf, storeFrom, compareFrom, conditionFrom, arithFrom, reversedFrom, familyFrom};
 
@@ -353,9 +357,97 @@ fn family_in(b: [u8; 32], n: usize) -> Family
 }
 
 // What a mnemonic by value stands for.
-pub fn family_text(t: Text) -> Family
+pub(crate) fn family_text(t: Text) -> Family
     ensures { λ r. ⌜ r ≡ familyOf (bytesOf t) ⌝ }
 {
     let b = t.bytes;
     family_in(b, t.len)
+}
+
+// A name that there is.
+fn shaped(alone: bool, one: One, two: Two) -> Shape
+    ensures { λ r. ⌜ r ≡ shapedOf alone one two ⌝ }
+{
+    Shape {
+        known: true,
+        alone,
+        one,
+        two,
+    }
+}
+
+// A name that takes one operand and nothing else.
+fn only_one(one: One) -> Shape
+    ensures { λ r. ⌜ r ≡ onlyOf one ⌝ }
+{
+    shaped(false, one, Two::Nothing)
+}
+
+fn load_shape(which: u8) -> Shape
+    ensures { λ r. ⌜ r ≡ shapeOf (loadFrom which) ⌝ }
+{
+    if which == 0 {
+        return only_one(One::PlaceOr(Widths::FloatWidths));
+    }
+    only_one(One::Memory(Widths::IntWidths))
+}
+
+fn store_shape(which: u8) -> Shape
+    ensures { λ r. ⌜ r ≡ shapeOf (Family.Store (storeFrom which)) ⌝ }
+{
+    match which {
+        0 => only_one(One::PlaceOr(Widths::FloatShort)),
+        1 => only_one(One::PlaceOr(Widths::FloatWidths)),
+        2 => only_one(One::Memory(Widths::IntStore)),
+        3 => only_one(One::Memory(Widths::IntWidths)),
+        _ => only_one(One::Memory(Widths::IntWidths)),
+    }
+}
+
+fn compare_shape(which: u8) -> Shape
+    ensures { λ r. ⌜ r ≡ shapeOf (compareFrom which) ⌝ }
+{
+    match which {
+        0 => shaped(true, One::PlaceOr(Widths::FloatShort), Two::Nothing),
+        1 => shaped(true, One::PlaceOr(Widths::FloatShort), Two::Nothing),
+        2 => shaped(true, One::Place, Two::Nothing),
+        _ => shaped(true, One::Place, Two::Nothing),
+    }
+}
+
+// What the name with a code takes.
+fn shape_from(code: u8) -> Shape
+    ensures { λ r. ⌜ r ≡ shapeOf (familyFrom code) ⌝ }
+{
+    let family = code / 16;
+    let which = code % 16;
+    match family {
+        0 => shaped(true, One::Nothing, Two::Nothing),
+        1 => shaped(true, One::Place, Two::Nothing),
+        2 => load_shape(which),
+        3 => store_shape(which),
+        4 => compare_shape(which),
+        5 => shaped(true, One::Nothing, Two::Nothing),
+        6 => shaped(false, One::Place, Two::Second),
+        7 => only_one(One::AxOr(Widths::StatusWidth)),
+        8 => shaped(false, One::Nothing, Two::TopAnd),
+        9 => only_one(One::Memory(Widths::IntArith)),
+        10 => only_one(One::Memory(Widths::IntArith)),
+        11 => shaped(false, One::PlaceOr(Widths::FloatShort), Two::Places),
+        12 => shaped(true, One::Place, Two::Places),
+        _ => Shape {
+            known: false,
+            alone: false,
+            one: One::Nothing,
+            two: Two::Nothing,
+        },
+    }
+}
+
+// What a mnemonic takes.
+pub fn shape(s: &[u8]) -> Shape
+    ensures { λ r. ⌜ r ≡ shapeOf (familyOf (now (s .entry))) ⌝ }
+{
+    let t = texts::trim(s);
+    shape_from(code_in(&NAMES, &CODES, key(t)))
 }

@@ -1,6 +1,6 @@
 -- What an instruction answers: a form 0 or 2, and 1 is a decline's alone
-use mathlib.Core.Path.{_≡_, refl}
-use mathlib.Core.Bool.{Bool, true, false, cond, true≢false, false≢true}
+use mathlib.Core.Path.{_≡_, refl, ap, _∙_}
+use mathlib.Core.Bool.{Bool, true, false, cond, false≢true}
 use mathlib.Core.List.{List}
 use Prim.Native.Nat.{ℕ}
 use lib.Dec.{eqb, leb}
@@ -8,7 +8,6 @@ use lib.ListN.{length}
 use Rattle.lists.specs.Rows.{roomOf}
 use Rattle.lists.specs.Steps.{Built, Does, _▸_, gives}
 use Rattle.lists.specs.Valid.{validOf}
-use Rattle.lists.proofs.Sequence.{still}
 use Rattle.lists.specs.Nodes.{statementOf}
 use Rattle.lists.specs.Stack.{writeOf, overflows, pushOf, exchangeOf}
 use Rattle.lists.specs.declared.State.{State}
@@ -18,15 +17,14 @@ use Rattle.forms.specs.declared.Classified.{Classified}
 use Rattle.forms.specs.declared.Classified.the-variants.{Modelled, Declined, BadText, BadOperands}
 use Rattle.forms.specs.declared.Instruction.{Instruction}
 use Rattle.forms.specs.Classify.{classifyOf}
-use Rattle.details.specs.Why.{whyOf, detailOf}
+use Rattle.details.specs.Why.{whyOf, detailFor, besideOf, detailOf}
 use Rattle.memory.specs.declared.Site.{Site}
 use Rattle.memory.specs.Site.{siteOf}
 use Rattle.memory.specs.Memory.{writeDstOf, x87StoreMemoryOf, x87StoreStatusOf}
 use Rattle.moves.specs.Moves.{x87ArithOf, x87CompareStatusOf, x87CompareFlagsOf, x87ConditionalMoveOf, x87UnaryOf, storeSlotOf}
 use Rattle.moves.specs.Pushes.{declineX87Of, landOf, pushConstOf, pushSlotOf, pushMemoryOf}
 use Rattle.lifter.specs.Apply.{applyX87Of}
-use Rattle.lifter.specs.Lift.{loweredOf, fittingOf, liftOf, Lifts}
-use Rattle.lifter.specs.Inside.{declinedIs, besideOf}
+use Rattle.lifter.specs.Lift.{loweredOf, fittingOf, placedOf, liftOf, Lifts}
 
 -- The answer passes a test that 0 and 2 pass
 module _ (test : ℕ → Bool) (zero-so : test 0 ≡ true) (two-so : test 2 ≡ true) where
@@ -60,66 +58,65 @@ module _ (test : ℕ → Bool) (zero-so : test 0 ≡ true) (two-so : test 2 ≡ 
   apply-answers s (Exchange index) site = zero-so
   apply-answers s (Unary op) site = zero-so
 
--- What is not declined looks at no detail
-undetailed : (s : State) (c : Classified) (d e : ℕ) (site : Site) → declinedIs c ≡ false → loweredOf s c d site ≡ loweredOf s c e site
-unfolding loweredOf
-undetailed s (Modelled form) d e site h = refl
-undetailed s Declined d e site h = absurd (true≢false h)
-undetailed s BadText d e site h = refl
-undetailed s BadOperands d e site h = refl
+-- The detail beside an answer of `classify` is all that is looked at
+pub detailed : (s : State) (c : Classified) (insn : Instruction) (site : Site) → loweredOf s c (detailFor c insn) site ≡ loweredOf s c (whyOf insn) site
+unfolding loweredOf detailFor
+detailed s (Modelled form) insn site = refl
+detailed s Declined insn site = refl
+detailed s BadText insn site = refl
+detailed s BadOperands insn site = refl
 
--- .. and does not answer 1
+-- An answer that is not 1 has no detail beside it, whatever is offered
 not-one : ℕ → Bool
 not-one n = cond (eqb n 1) false true
 
-other-answer : (s : State) (c : Classified) (d : ℕ) (site : Site) → declinedIs c ≡ false → not-one (loweredOf s c d site .val) ≡ true
-unfolding loweredOf gives not-one
-other-answer s (Modelled form) d site h = apply-answers not-one refl refl s form site
-other-answer s Declined d site h = absurd (true≢false h)
-other-answer s BadText d site h = refl
-other-answer s BadOperands d site h = refl
-
--- .. also where it does not fit
-fitted-other : (b : Built) (s : State) (n m : List ℕ) → not-one (b .val) ≡ true → not-one (fittingOf b s n m .val) ≡ true
-unfolding fittingOf gives not-one
-fitted-other b s n m h = way (leb (b .st .nodes) (roomOf (length n))) (leb (b .st .statements) (roomOf (length m)))
-  where
-    way : (t u : Bool) → not-one (cond t (cond u b (gives s 7)) (gives s 6) .val) ≡ true
-    way true true = h
-    way true false = refl
-    way false u = refl
-
-silent : (answer w : ℕ) → not-one answer ≡ true → 0 ≡ cond (eqb answer 1) w 0
+silent : (answer v w : ℕ) → not-one answer ≡ true → besideOf answer v ≡ besideOf answer w
 unfolding not-one
-silent answer w = way (eqb answer 1)
+silent answer v w = way (eqb answer 1)
   where
-    way : (t : Bool) → cond t false true ≡ true → 0 ≡ cond t w 0
+    way : (t : Bool) → cond t false true ≡ true → cond t v 0 ≡ cond t w 0
     way true h = absurd (false≢true h)
     way false h = refl
 
-module _ (s : State) (insn : Instruction) (n m : List ℕ) (v : validOf s (roomOf (length n)) (roomOf (length m)) ≡ true) (c : Classified) (p : c ≡ classifyOf insn) where
-  -- A DECLINE: its detail is given beside answer 1
-  pub lifts-declined : declinedIs c ≡ true → {t : State} {a r : ℕ} {n′ m′ : List ℕ}
-      → Does (fittingOf (loweredOf s Declined (whyOf insn) (siteOf insn)) s n m) t a n n′ m m′ × (r ≡ besideOf a (whyOf insn)) → Lifts (liftOf s insn n m) insn t a r n n′ m m′
-  unfolding liftOf detailOf
-  lifts-declined h x = record { does = rw (v, ← p, declined-so c h) (x .0); detail-is = x .1 }
+module _ (s : State) (n m : List ℕ) where
+  -- so it is of what does not answer 1, also where it does not fit
+  placed-other : (c : Classified) (d : ℕ) (site : Site) → not-one (loweredOf s c d site .val) ≡ true → not-one (placedOf s c d site n m .val) ≡ true
+  unfolding fittingOf gives not-one
+  placed-other c d site h = way (validOf s (roomOf (length n)) (roomOf (length m))) (leb (b .st .nodes) (roomOf (length n))) (leb (b .st .statements) (roomOf (length m)))
     where
-      declined-so : (c : Classified) → declinedIs c ≡ true → c ≡ Declined
-      declined-so (Modelled form) h = absurd (false≢true h)
-      declined-so Declined h = refl
-      declined-so BadText h = absurd (false≢true h)
-      declined-so BadOperands h = absurd (false≢true h)
+      b : Built
+      b = loweredOf s c d site
 
-  -- ANYTHING ELSE has none
-  pub lifts-other : declinedIs c ≡ false → (d : ℕ) {site : Site} {t : State} {a : ℕ} {n′ m′ : List ℕ} → site ≡ siteOf insn
-      → Does (fittingOf (loweredOf s c d site) s n m) t a n n′ m m′ → Lifts (liftOf s insn n m) insn t a 0 n n′ m m′
+      way : (v t u : Bool) → not-one (cond v (cond t (cond u b (gives s 7)) (gives s 6)) (gives s 5) .val) ≡ true
+      way true true true = h
+      way true true false = refl
+      way true false u = refl
+      way false t u = refl
+
+  placed-silent : (c : Classified) (d : ℕ) (site : Site) (v : ℕ) → not-one (loweredOf s c d site .val) ≡ true → besideOf (placedOf s c d site n m .val) v ≡ besideOf (placedOf s c d site n m .val) d
+  placed-silent c d site v h = silent (placedOf s c d site n m .val) v d (placed-other c d site h)
+
+  -- THE DETAIL BESIDE A LIFT: what `classify` has beside its answer is told where the lift answers 1
+  told : (c : Classified) (insn : Instruction) (site : Site)
+      → besideOf (placedOf s c (whyOf insn) site n m .val) (detailFor c insn) ≡ besideOf (placedOf s c (whyOf insn) site n m .val) (whyOf insn)
+  unfolding loweredOf gives detailFor not-one
+  told (Modelled form) insn site = placed-silent (Modelled form) (whyOf insn) site 0 (apply-answers not-one refl refl s form site)
+  told Declined insn site = refl
+  told BadText insn site = placed-silent BadText (whyOf insn) site 0 refl
+  told BadOperands insn site = placed-silent BadOperands (whyOf insn) site 0 refl
+
+  pub lift-told : (insn : Instruction) → besideOf (liftOf s insn n m .val) (detailFor (classifyOf insn) insn) ≡ detailOf (liftOf s insn n m .val) insn
   unfolding liftOf detailOf
-  lifts-other h d {a = a} q x =
-      let y = rw (undetailed s c d (whyOf insn) _ h, q) at x in
-      let z : not-one a ≡ true = rw (y .number) (fitted-other _ s n m (other-answer s c (whyOf insn) (siteOf insn) h)) in
-      record { does = rw (v, ← p) y; detail-is = silent a (whyOf insn) z }
+  lift-told insn = told (classifyOf insn) insn (siteOf insn)
 
--- .. and one that is refused with 5 has none
-pub not-lifted : (s : State) (insn : Instruction) (n m : List ℕ) → validOf s (roomOf (length n)) (roomOf (length m)) ≡ false → Lifts (liftOf s insn n m) insn s 5 0 n n m m
-unfolding liftOf detailOf
-not-lifted s insn n m v = record { does = rw v (still refl refl); detail-is = refl }
+  -- WHAT IS CLASSIFIED FIRST is lifted as the instruction
+  pub placed-lift : (insn : Instruction) → placedOf s (classifyOf insn) (detailFor (classifyOf insn) insn) (siteOf insn) n m ≡ liftOf s insn n m
+  unfolding liftOf
+  placed-lift insn = rw (detailed s (classifyOf insn) insn (siteOf insn))
+
+  pub lifted : (insn : Instruction) (c : Classified) (d : ℕ) (site : Site) → c ≡ classifyOf insn → d ≡ detailFor c insn → site ≡ siteOf insn → {t : State} {a w : ℕ} {n′ m′ : List ℕ}
+      → Does (placedOf s c d site n m) t a n n′ m m′ → w ≡ besideOf a d → Lifts (liftOf s insn n m) insn t a w n n′ m m′
+  lifted insn c d site p q e x b =
+      let f = q ∙ ap (λ (c : Classified). detailFor c insn) p in
+      let y = rw (f, p, e, placed-lift insn) at x in
+      record { does = y; detail-is = rw f at b ∙ rw (y .number) (lift-told insn) }

@@ -1,11 +1,11 @@
 -- The lift of one instruction, with its refusals
+use mathlib.Core.Path.{_≡_}
 use mathlib.Core.Bool.{cond}
 use mathlib.Core.List.{List}
 use Prim.Native.Nat.{ℕ}
 use lib.Dec.{leb}
 use lib.ListN.{length}
 use Rattle.lists.specs.Rows.{roomOf}
-use mathlib.Core.Path.{_≡_}
 use Rattle.lists.specs.Steps.{Built, gives, Does}
 use Rattle.lists.specs.Valid.{validOf}
 use Rattle.lists.specs.declared.State.{State}
@@ -34,11 +34,14 @@ fittingOf b s nodes statements =
     (gives s 6)
 
 -- Nor where the state is not valid: 5
-unfoldable pub liftOf : State → Instruction → List ℕ → List ℕ → Built
-liftOf s insn nodes statements =
+abbrev pub placedOf : State → Classified → ℕ → Site → List ℕ → List ℕ → Built
+placedOf s classified detail site nodes statements =
     cond (validOf s (roomOf (length nodes)) (roomOf (length statements)))
-    (fittingOf (loweredOf s (classifyOf insn) (whyOf insn) (siteOf insn)) s nodes statements)
+    (fittingOf (loweredOf s classified detail site) s nodes statements)
     (gives s 5)
+
+unfoldable pub liftOf : State → Instruction → List ℕ → List ℕ → Built
+liftOf s insn nodes statements = placedOf s (classifyOf insn) (whyOf insn) (siteOf insn) nodes statements
 
 -- What a call of lift promises of its step: state and answer, both lists, and the detail
 pub record Lifts (b : Built) (insn : Instruction) (st : State) (val detail : ℕ) (old new old′ new′ : List ℕ) : Type 0 where

@@ -5,10 +5,7 @@ ghost use lib.Dec.{leb};
 ghost use Rattle.lists.specs.Rows.{roomOf};
 ghost use Rattle.lists.specs.Steps.{Does};
 ghost use Rattle.lifter.specs.Apply.{applyX87Of};
-ghost use Rattle.details.specs.Why.{whyOf};
-ghost use Rattle.lifter.specs.Lift.{loweredOf, fittingOf, liftOf, Lifts};
-ghost use Rattle.lifter.specs.Inside.{declinedIs, besideOf};
-ghost use Rattle.memory.specs.Site.{siteOf};
+ghost use Rattle.lifter.specs.Lift.{loweredOf, fittingOf, placedOf, liftOf, Lifts};
 use forms::Classified;
 use forms::Form;
 use forms::Instruction;
@@ -124,87 +121,57 @@ fn ample(words: usize, count: u32, more: u32) -> bool
     (count as u64) + (more as u64) <= (lists::room(words) as u64)
 }
 
-// An instruction without a detail, if the whole of it fits. Where the room is ample for any form there is nothing to find out first.
+// An instruction, if the whole of it fits. Where the room is ample for any form there is nothing to find out first.
 fn fit(
     nodes: &mut [u64],
     statements: &mut [u64],
     s: State,
     classified: Classified,
+    detail: u32,
     site: Site,
 ) -> Done
-    ensures { λ r. ⌜ Does (fittingOf (loweredOf s classified 0 site) s (now (nodes .entry)) (now (statements .entry))) (r .state) (r .answer) (now (nodes .entry)) (now (nodes .exit)) (now (statements .entry)) (now (statements .exit)) ⌝ }
+    ensures { λ r. ⌜ Does (fittingOf (loweredOf s classified detail site) s (now (nodes .entry)) (now (statements .entry))) (r .state) (r .answer) (now (nodes .entry)) (now (nodes .exit)) (now (statements .entry)) (now (statements .exit)) ⌝ }
 {
     if ample(nodes.len(), s.nodes, MOST_NODES) {
         if ample(statements.len(), s.statements, MOST_STATEMENTS) {
-            return lower(nodes, statements, s, classified, 0, site);
+            return lower(nodes, statements, s, classified, detail, site);
         }
     }
-    fit_tight(nodes, statements, s, classified, 0, site)
+    fit_tight(nodes, statements, s, classified, detail, site)
 }
 
-// Whether an answer of `classify` is the decline.
-fn declined(classified: Classified) -> bool
-    ensures { λ r. ⌜ r ≡ declinedIs classified ⌝ }
+// Lifts what `classify` answered, with the detail of a decline, if the state is valid: 0 modelled, 1 and 2 declined, 3 to 7 refused with nothing changed.
+pub fn lift_classified(
+    nodes: &mut [u64],
+    statements: &mut [u64],
+    s: State,
+    classified: Classified,
+    detail: u32,
+    site: Site,
+) -> Done
+    ensures { λ r. ⌜ Does (placedOf s classified detail site (now (nodes .entry)) (now (statements .entry))) (r .state) (r .answer) (now (nodes .entry)) (now (nodes .exit)) (now (statements .entry)) (now (statements .exit)) ⌝ }
 {
-    match classified {
-        Classified::Modelled(_) => false,
-        Classified::Declined => true,
-        Classified::BadText => false,
-        Classified::BadOperands => false,
+    if lists::valid(s, lists::room(nodes.len()), lists::room(statements.len())) {
+        return fit(nodes, statements, s, classified, detail, site);
+    }
+    Done {
+        state: s,
+        answer: 5,
     }
 }
 
-// The detail stands beside answer 1 alone.
-fn beside(answer: u32, detail: u32) -> u32
-    ensures { λ r. ⌜ r ≡ besideOf answer detail ⌝ }
+// Lifts one instruction, and gives the detail of a decline beside its answer.
+pub fn lift(nodes: &mut [u64], statements: &mut [u64], s: State, insn: Instruction) -> Lifted
+    ensures { λ r. ⌜ Lifts (liftOf s insn (now (nodes .entry)) (now (statements .entry))) insn (r .state) (r .answer) (r .detail) (now (nodes .entry)) (now (nodes .exit)) (now (statements .entry)) (now (statements .exit)) ⌝ }
 {
-    if answer == 1 {
-        return detail;
-    }
-    0
-}
-
-// Lifts an instruction that `classify` declines: only here its detail is worked out.
-fn decline(nodes: &mut [u64], statements: &mut [u64], s: State, insn: Instruction) -> Lifted
-    ensures { λ r. ⌜ Does (fittingOf (loweredOf s Classified.Declined (whyOf insn) (siteOf insn)) s (now (nodes .entry)) (now (statements .entry))) (r .state) (r .answer) (now (nodes .entry)) (now (nodes .exit)) (now (statements .entry)) (now (statements .exit)) × (r .detail ≡ besideOf (r .answer) (whyOf insn)) ⌝ }
-{
-    let detail = details::why(insn);
-    let done = fit_tight(
-        nodes,
-        statements,
-        s,
-        Classified::Declined,
-        detail,
-        memory::site_of(insn),
-    );
+    let classified = forms::classify(insn);
+    let detail = details::detail(classified, insn);
+    let site = memory::site_of(insn);
+    let done = lift_classified(nodes, statements, s, classified, detail, site);
     let state = done.state;
     Lifted {
         state,
         answer: done.answer,
-        detail: beside(done.answer, detail),
-    }
-}
-
-// Lifts one instruction: 0 modelled, 1 and 2 declined, 3 to 7 refused with nothing changed.
-pub fn lift(nodes: &mut [u64], statements: &mut [u64], s: State, insn: Instruction) -> Lifted
-    ensures { λ r. ⌜ Lifts (liftOf s insn (now (nodes .entry)) (now (statements .entry))) insn (r .state) (r .answer) (r .detail) (now (nodes .entry)) (now (nodes .exit)) (now (statements .entry)) (now (statements .exit)) ⌝ }
-{
-    if lists::valid(s, lists::room(nodes.len()), lists::room(statements.len())) {
-        let classified = forms::classify(insn);
-        if declined(classified) {
-            return decline(nodes, statements, s, insn);
-        }
-        let done = fit(nodes, statements, s, classified, memory::site_of(insn));
-        let state = done.state;
-        return Lifted {
-            state,
-            answer: done.answer,
-            detail: 0,
-        };
-    }
-    Lifted {
-        state: s,
-        answer: 5,
-        detail: 0,
+        detail: details::beside(done.answer, detail),
     }
 }

@@ -27,11 +27,12 @@ use Rattle.forms.specs.declared.Family.{Family}
 use Rattle.forms.specs.declared.Family.the-variants as family
 use Rattle.forms.specs.Operands.{slotOf, widthOf, takesOf, widthsOf, axOf, operandsOf}
 use Rattle.forms.specs.Families.{exchangeAt, loadAt, storeAt, statusAt, flagAt, conditionalAt, statusTo, storeStatusAt, integerArithOf, integerCompareOf, arithOne, arithTwo, formOf}
+use Rattle.forms.specs.Shapes.{movedOne, comparedOne, shapeOf}
 use Rattle.details.specs.Takes.{place, st0, memory, place-or, ax-or, places, st0-alone}
 use Rattle.details.specs.Why.{placeIs, topIs}
-use Rattle.details.specs.Inside.{whyOne, whyTwo, memoryWhy, bothOf, movedOf, comparedOf, operatedOf, unknownIs, whyAlone, whyOnly, whyPair, whyBy}
+use Rattle.details.specs.Inside.{whyOne, whyTwo, memoryWhy, bothOf, whyOnly, whyPair, whyBy}
 use Rattle.details.proofs.Operands.{kinds, memory-why, place-why, st0-why, place-or-why, ax-or-why, two-why}
-use Rattle.details.proofs.Families.{by-number}
+use Rattle.details.proofs.Shapes.{by-number}
 
 abbrev pub declinedIs : Classified → Bool
 declinedIs (Modelled f) = false
@@ -95,27 +96,29 @@ module _ (o : Operand) where
       way false true false t p h = left
       way false false k t p h = left
 
-  loads : (f : MemFormat) (ws : Widths) → declinedIs (loadAt f (slotOf o) (widthOf ws o)) ≡ someIs (whyOne (movedOf f ws) o)
+  loads : (f : MemFormat) (ws : Widths) → declinedIs (loadAt f (slotOf o) (widthOf ws o)) ≡ someIs (whyOnly (movedOne f ws) o)
+  unfolding whyOnly
   loads Float ws = of-either ws (loadAt Float) (λ i w. refl) (λ w. refl) refl
   loads Integer ws = of-integer ws (loadAt Integer) (λ i w. refl) (λ w. refl) refl
 
-  stores : (spec : StoreSpec) → declinedIs (storeAt spec (slotOf o) (widthOf (spec .widths) o)) ≡ someIs (whyOne (movedOf (spec .format) (spec .widths)) o)
+  stores : (spec : StoreSpec) → declinedIs (storeAt spec (slotOf o) (widthOf (spec .widths) o)) ≡ someIs (whyOnly (movedOne (spec .format) (spec .widths)) o)
+  unfolding whyOnly
   stores spec = way (spec .format) refl
     where
-      same : {f g : MemFormat} → f ≡ g → someIs (whyOne (movedOf f (spec .widths)) o) ≡ someIs (whyOne (movedOf g (spec .widths)) o)
-      same e = ap (λ (f : MemFormat). someIs (whyOne (movedOf f (spec .widths)) o)) e
+      same : {f g : MemFormat} → f ≡ g → someIs (whyOnly (movedOne f (spec .widths)) o) ≡ someIs (whyOnly (movedOne g (spec .widths)) o)
+      same e = ap (λ (f : MemFormat). someIs (whyOnly (movedOne f (spec .widths)) o)) e
 
-      way : (f : MemFormat) → spec .format ≡ f → declinedIs (storeAt spec (slotOf o) (widthOf (spec .widths) o)) ≡ someIs (whyOne (movedOf (spec .format) (spec .widths)) o)
+      way : (f : MemFormat) → spec .format ≡ f → declinedIs (storeAt spec (slotOf o) (widthOf (spec .widths) o)) ≡ someIs (whyOnly (movedOne (spec .format) (spec .widths)) o)
       way Float e = of-either (spec .widths) (storeAt spec) (λ i w. rw e) (λ w. refl) refl ∙ same (sym e)
       way Integer e = of-integer (spec .widths) (storeAt spec) (λ i w. rw e) (λ w. refl) refl ∙ same (sym e)
 
-  compares : (p : ℕ) (m : MemorySource) → declinedIs (statusAt p m (slotOf o) (widthOf FloatShort o)) ≡ someIs (whyOne (comparedOf m) o)
+  compares : (p : ℕ) (m : MemorySource) → declinedIs (statusAt p m (slotOf o) (widthOf FloatShort o)) ≡ someIs (whyOnly (comparedOne m) o)
+  unfolding whyOnly
   compares p Allowed = of-either FloatShort (statusAt p Allowed) (λ i w. refl) (λ w. refl) refl
   compares p Forbidden = of-place (λ (q : Place). statusAt p Forbidden q (widthOf FloatShort o)) (λ i. refl) refl
 
-  operates : (op : X87Arith) (rev pop : Bool) → declinedIs (arithOne op rev pop (slotOf o) (widthOf FloatShort o)) ≡ someIs (whyOne (operatedOf pop) o)
-  operates op rev true = of-place (λ (q : Place). arithOne op rev true q (widthOf FloatShort o)) (λ i. refl) refl
-  operates op rev false = of-either FloatShort (arithOne op rev false) (λ i w. refl) (λ w. refl) refl
+  pops : (op : X87Arith) (rev : Bool) → declinedIs (arithOne op rev true (slotOf o) (widthOf FloatShort o)) ≡ someIs (whyOne place o)
+  pops op rev = of-place (λ (q : Place). arithOne op rev true q (widthOf FloatShort o)) (λ i. refl) refl
 
   status-stores : declinedIs (storeStatusAt o) ≡ someIs (whyOne (ax-or (widthsOf StatusWidth)) o)
   unfolding someIs storeStatusAt
@@ -154,10 +157,10 @@ module _ (a b : Operand) where
 -- EVERY FAMILY, of any number of operands
 module _ (os : List Operand) where
   Exact : Family → ℕ → Type 0
-  Exact f n = declinedIs (formOf f (operandsOf n os)) ≡ someIs (whyBy f n os)
+  Exact f n = declinedIs (formOf f (operandsOf n os)) ≡ someIs (whyBy (shapeOf f) n os)
 
   exact : (f : Family) (n : ℕ) → Exact f n
-  unfolding Exact formOf whyBy unknownIs whyAlone whyOnly whyPair someIs
+  unfolding Exact formOf shapeOf whyBy whyOnly whyPair someIs
   exact (family.Plain f) n = by-number (Exact (family.Plain f)) refl refl refl (λ n a b c. rw (a, b, c)) n
   exact family.Exchange n = by-number (Exact family.Exchange) refl (of-place _ exchangeAt (λ i. refl) refl) refl (λ n a b c. rw (a, b, c)) n
   exact (family.Load f ws) n = by-number (Exact (family.Load f ws)) refl (loads _ f ws) refl (λ n a b c. rw (a, b, c)) n
@@ -170,10 +173,10 @@ module _ (os : List Operand) where
   exact (family.IntegerArith op rev) n =
       by-number (Exact (family.IntegerArith op rev)) refl (of-memory _ IntArith (integerArithOf op rev) (λ w. refl) refl) refl (λ n a b c. rw (a, b, c)) n
   exact (family.IntegerCompare p) n = by-number (Exact (family.IntegerCompare p)) refl (of-memory _ IntArith (integerCompareOf p) (λ w. refl) refl) refl (λ n a b c. rw (a, b, c)) n
-  exact (family.Arith op rev true) n = by-number (Exact (family.Arith op rev true)) refl (operates _ op rev true) (pairs _ _ op rev true) (λ n a b c. rw (a, b, c)) n
-  exact (family.Arith op rev false) n = by-number (Exact (family.Arith op rev false)) refl (operates _ op rev false) (pairs _ _ op rev false) (λ n a b c. rw (a, b, c)) n
+  exact (family.Arith op rev true) n = by-number (Exact (family.Arith op rev true)) refl (pops _ op rev) (pairs _ _ op rev true) (λ n a b c. rw (a, b, c)) n
+  exact (family.Arith op rev false) n = by-number (Exact (family.Arith op rev false)) refl (of-either _ FloatShort (arithOne op rev false) (λ i w. refl) (λ w. refl) refl) (pairs _ _ op rev false) (λ n a b c. rw (a, b, c)) n
   exact family.Unknown n = refl
 
-pub exactly : (f : Family) (n : ℕ) (os : List Operand) → declinedIs (formOf f (operandsOf n os)) ≡ someIs (whyBy f n os)
+pub exactly : (f : Family) (n : ℕ) (os : List Operand) → declinedIs (formOf f (operandsOf n os)) ≡ someIs (whyBy (shapeOf f) n os)
 unfolding Exact
 exactly f n os = exact os f n

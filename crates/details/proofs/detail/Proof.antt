@@ -1,19 +1,49 @@
-use borrow.Author.Tests.{eq-eqb, ne-eqb}
-use Rattle.details.specs.Why.{detailOf}
+use Rattle.details.specs.Why.{detailFor}
 use borrow.Author.Needs.{needs}
 use Rattle.details.proofs.detail.Statement.{statement}
 use Rattle.details.proofs.detail.Tie as tie
 
+enum-told : tie.Need-enum-told
+enum-told c = search needs
+
+enum-told-2 : tie.Need-enum-told-2
+enum-told-2 c = search needs
+
 why-requires : tie.Need-why-requires
 why-requires c κs = search needs
 
+enum-told-3 : tie.Need-enum-told-3
+enum-told-3 c = search needs
+
+enum-told-4 : tie.Need-enum-told-4
+enum-told-4 c = search needs
+
 returns : tie.Need-returns
-unfolding detailOf
-returns c = rw (eq-eqb _ _ (c .before .if1 .taken)) (c .why .ensures)
+unfolding detailFor
+returns c = simp (c .enum-told .given .1)
 
 returns-2 : tie.Need-returns-2
-unfolding detailOf
-returns-2 c = rw (ne-eqb _ _ (c .if1 .left))
+unfolding detailFor
+returns-2 c = simp (c .before .enum-told2 .given .1) (c .why .ensures)
+
+returns-3 : tie.Need-returns-3
+unfolding detailFor
+returns-3 c = simp (c .enum-told3 .given .1)
+
+returns-4 : tie.Need-returns-4
+unfolding detailFor
+returns-4 c = simp (c .enum-told4 .given .1)
 
 pub detail-spec : {M : Type 1} → statement M
-detail-spec = tie.close (tie.spec why-requires returns returns-2)
+detail-spec =
+    tie.close
+    (tie.spec
+    enum-told
+    enum-told-2
+    why-requires
+    enum-told-3
+    enum-told-4
+    returns
+    returns-2
+    returns-3
+    returns-4)

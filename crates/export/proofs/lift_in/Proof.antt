@@ -10,8 +10,8 @@ small-requires c κs = search needs
 read-requires : tie.Need-read-requires
 read-requires c κs = search needs
 
-lift-requires : tie.Need-lift-requires
-lift-requires c κs = search needs
+lift-classified-requires : tie.Need-lift-classified-requires
+lift-classified-requires c κs = search needs
 
 keep-requires : tie.Need-keep-requires
 keep-requires c κs = search needs
@@ -26,13 +26,13 @@ same-length-3 : tie.Need-same-length-3
 same-length-3 c = search needs
 
 returns : tie.Need-returns
-returns c = lifts _ _ _ _ (sym (c .before .before .before .before .before .before .before .before .before .before .before .before .before .before .before .small .ensures) ∙ c .before .before .before .before .before .before .before .before .before .before .before .before .before .before .if1 .taken) _ _ _ _ _ _ _ (c .before .before .before .before .before .before .before .before .before .before .before .before .read .ensures) (c .before .before .before .before .before .before .before .before .before .lift .ensures) (c .before .before .keep .ensures)
+returns c = lifts _ _ _ _ _ _ (sym (c .before .before .before .before .before .before .before .before .before .before .before .before .before .before .before .small .ensures) ∙ c .before .before .before .before .before .before .before .before .before .before .before .before .before .before .if1 .taken) _ _ _ _ _ _ (c .before .before .before .before .before .before .before .before .before .before .before .before .read .ensures) (c .before .before .before .before .before .before .before .before .before .lift-classified .ensures) (c .before .before .keep .ensures)
 
 same-length-4 : tie.Need-same-length-4
 same-length-4 c = search needs
 
 returns-2 : tie.Need-returns-2
-returns-2 c = too-wide _ _ _ _ (sym (c .before .small .ensures) ∙ c .if1 .left)
+returns-2 c = too-wide _ _ _ _ _ _ (sym (c .before .small .ensures) ∙ c .if1 .left)
 
 pub lift-in-spec : {M : Type 1} → statement M
 lift-in-spec =
@@ -40,7 +40,7 @@ lift-in-spec =
     (tie.spec
     small-requires
     read-requires
-    lift-requires
+    lift-classified-requires
     keep-requires
     same-length
     same-length-2

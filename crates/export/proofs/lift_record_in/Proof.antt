@@ -1,5 +1,5 @@
 use mathlib.Core.Path.{sym, _∙_}
-use Rattle.export.proofs.Lifting.{steps-on, stops}
+use Rattle.export.proofs.Lifting.{gives, steps-on, stops}
 use borrow.Author.Needs.{needs}
 use Rattle.export.proofs.lift_record_in.Statement.{statement}
 use Rattle.export.proofs.lift_record_in.Tie as tie
@@ -13,8 +13,20 @@ place-requires c κs = search needs
 is-record-requires : tie.Need-is-record-requires
 is-record-requires c κs = search needs
 
+classify-requires : tie.Need-classify-requires
+classify-requires c κs = search needs
+
+detail-requires : tie.Need-detail-requires
+detail-requires c κs = search needs
+
+site-of-requires : tie.Need-site-of-requires
+site-of-requires c κs = search needs
+
 lift-in-requires : tie.Need-lift-in-requires
 lift-in-requires c κs = search needs
+
+beside-requires : tie.Need-beside-requires
+beside-requires c κs = search needs
 
 tell-requires : tie.Need-tell-requires
 tell-requires c κs = search needs
@@ -33,11 +45,14 @@ same-length-4 c = search needs
 
 returns : tie.Need-returns
 returns c =
-    let b = c .before .before .before .before .before .before .before .before .before .before .before .before .before .before in
+    let l = c .before .before .before .before .before .before .before .before .before .before .before in
+    let e = l .before .before .before .before in
+    let b = e .before .before .before in
     let a = b .before .before .before .before in
     let s = a .before .before .before .before .before .before in
+    let g = gives _ _ _ _ _ _ _ (e .before .before .classify .ensures) (e .before .detail .ensures) (e .site-of .ensures) _ _ _ _ _ (l .lift-in .ensures) (c .before .before .before .beside .ensures) in
     rw (← a .record-at .ensures)
-    (steps-on _ _ _ _ _ _ (s .pre .1) (s .pre .0) _ _ _ _ _ _ (sym (b .before .is-record .ensures) ∙ b .if1 .taken) (c .before .before .before .before .before .before .before .before .before .before .lift-in .ensures)
+    (steps-on _ _ _ _ _ _ (s .pre .1) (s .pre .0) _ _ _ _ _ _ (sym (b .before .is-record .ensures) ∙ b .if1 .taken) g
     (rw (← b .before .before .place .ensures) (c .before .before .tell .ensures)))
 
 slice-aggregate-lay : tie.Need-slice-aggregate-lay
@@ -68,7 +83,11 @@ lift-record-in-spec =
     record-at-requires
     place-requires
     is-record-requires
+    classify-requires
+    detail-requires
+    site-of-requires
     lift-in-requires
+    beside-requires
     tell-requires
     same-length
     same-length-2

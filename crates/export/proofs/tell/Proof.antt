@@ -4,9 +4,6 @@ use borrow.Author.Needs.{needs}
 use Rattle.export.proofs.tell.Statement.{statement}
 use Rattle.export.proofs.tell.Tie as tie
 
-cast-t9 : tie.Need-cast-t9
-cast-t9 c = search needs
-
 slice-aggregate-lay : tie.Need-slice-aggregate-lay
 slice-aggregate-lay c = search needs
 
@@ -24,7 +21,7 @@ same-length c = search needs
 
 returns : tie.Need-returns
 unfolding toldOf
-returns c = rw (le-leb _ _ (c .before .before .before .before .before .before .if1 .taken)) (c .before .before .lay .ensures)
+returns c = rw (le-leb _ _ (c .before .before .before .before .before .if1 .taken)) (c .before .before .lay .ensures)
 
 same-length-2 : tie.Need-same-length-2
 same-length-2 c = search needs
@@ -37,7 +34,6 @@ pub tell-spec : {M : Type 1} → statement M
 tell-spec =
     tie.close
     (tie.spec
-    cast-t9
     slice-aggregate-lay
     lay-requires
     slice-aggregate-lay-2

@@ -1,7 +1,7 @@
 use mathlib.Core.Logic.{⊎-elim}
 use mathlib.Core.Path.{refl}
 use Rattle.export.specs.Flat.{laid}
-use Rattle.export.proofs.Lifting.{from-flat, short-state, short-flat, few-words}
+use Rattle.export.proofs.Lifting.{gives, from-flat, short-state, short-flat, few-words}
 use borrow.Author.Needs.{needs}
 use Rattle.export.proofs.x87_lift.Statement.{statement}
 use Rattle.export.proofs.x87_lift.Tie as tie
@@ -9,8 +9,20 @@ use Rattle.export.proofs.x87_lift.Tie as tie
 read-requires : tie.Need-read-requires
 read-requires c κs = search needs
 
+classify-requires : tie.Need-classify-requires
+classify-requires c κs = search needs
+
+detail-requires : tie.Need-detail-requires
+detail-requires c κs = search needs
+
+site-of-requires : tie.Need-site-of-requires
+site-of-requires c κs = search needs
+
 lift-in-requires : tie.Need-lift-in-requires
 lift-in-requires c κs = search needs
+
+beside-requires : tie.Need-beside-requires
+beside-requires c κs = search needs
 
 cast-out : tie.Need-cast-out
 cast-out c = search needs
@@ -32,7 +44,12 @@ same-length-4 c = search needs
 
 returns : tie.Need-returns
 unfolding laid
-returns c = from-flat _ _ _ _ _ (c .before .before .before .before .before .before .before .before .before .before .before .before .before .before .if1 .taken) (c .before .before .before .before .before .before .before .before .before .before .before .before .before .if2 .taken) (c .before .before .before .before .before .before .before .before .before .before .before .before .if3 .taken) _ _ _ _ _ _ _ (c .before .before .before .before .before .before .before .before .before .before .before .read .ensures) (c .before .before .before .before .before .before .before .lift-in .ensures) refl
+returns c =
+    let l = c .before .before .before .before .before .before .before in
+    let e = l .before .before .before .before in
+    let d = e .before .before .before in
+    let g = gives _ _ _ _ _ _ _ (e .before .before .classify .ensures) (e .before .detail .ensures) (e .site-of .ensures) _ _ _ _ _ (l .lift-in .ensures) (c .beside .ensures) in
+    from-flat _ _ _ _ _ (d .before .before .before .if1 .taken) (d .before .before .if2 .taken) (d .before .if3 .taken) _ _ _ _ _ _ _ (d .read .ensures) g refl
 
 slice-write-out-2 : tie.Need-slice-write-out-2
 slice-write-out-2 c = search needs
@@ -54,7 +71,11 @@ x87-lift-spec =
     tie.close
     (tie.spec
     read-requires
+    classify-requires
+    detail-requires
+    site-of-requires
     lift-in-requires
+    beside-requires
     cast-out
     slice-write-out
     same-length

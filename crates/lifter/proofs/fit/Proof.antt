@@ -26,10 +26,10 @@ same-length-2 c = search needs
 returns : tie.Need-returns
 returns c =
     let a = c .before .before .before .before .before .before .before .before .before .before .before .before .before .args in
-    let b = loweredOf (a .s) (a .classified) 0 (a .site) in
+    let b = loweredOf (a .s) (a .classified) (a .detail) (a .site) in
     let h = leb-true _ _ (sym (c .before .before .before .before .before .before .before .before .before .before .ample .ensures) ∙ c .before .before .before .before .before .before .before .before .before .if1 .taken) in
     let i = leb-true _ _ (sym (c .before .before .before .before .before .before .before .before .ample2 .ensures) ∙ c .before .before .before .before .before .before .before .if2 .taken) in
-    rw (ample-fits b (a .s) (now (a .nodes)) (now (a .statements)) (lowered-adds (a .s) (a .classified) 0 (a .site)) h i) (c .before .before .before .before .lower .ensures)
+    rw (ample-fits b (a .s) (now (a .nodes)) (now (a .statements)) (lowered-adds (a .s) (a .classified) (a .detail) (a .site)) h i) (c .before .before .before .before .lower .ensures)
 
 fit-tight-requires : tie.Need-fit-tight-requires
 fit-tight-requires c κs = search needs

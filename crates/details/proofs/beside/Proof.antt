@@ -1,6 +1,6 @@
 use borrow.Author.Tests.{eq-eqb, ne-eqb}
-use Rattle.lifter.proofs.beside.Statement.{statement}
-use Rattle.lifter.proofs.beside.Tie as tie
+use Rattle.details.proofs.beside.Statement.{statement}
+use Rattle.details.proofs.beside.Tie as tie
 
 returns : tie.Need-returns
 returns c = rw (eq-eqb _ _ (c .if1 .taken))
