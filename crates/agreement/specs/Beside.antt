@@ -6,13 +6,13 @@ use mathlib.Core.Path.{_≡_, refl}
 use mathlib.Core.Bool.{Bool, true, false, cond, _&&_}
 use mathlib.Core.List.{List, [], _∷_}
 use Prim.Native.Nat.{ℕ}
+use native.Mathlib.Omega.{arith}
 use lib.Dec.{eqb, leb}
 use lib.ListN.{take, replicate}
 use Rattle.texts.specs.Bytes.{all}
 use Rattle.forms.specs.Classify.{classifyOf}
 use Rattle.forms.specs.Effects.{effectOf}
 use Rattle.forms.specs.Numbers.{numberOf, fieldsOf, effectNumber, effectFields}
-use Rattle.forms.specs.declared.Instruction.{Instruction}
 use Rattle.forms.specs.declared.Classified.{Classified}
 use Rattle.forms.specs.declared.Classified.the-variants as classified-as
 use Rattle.forms.specs.declared.Affected.{Affected}
@@ -30,6 +30,10 @@ use Rattle.lifter.specs.Lift.{liftOf}
 use Rattle.export.specs.Lifts.{Lifted, smallIs, stateIn, done, liftedIn, liftedOf, unchanged}
 use Rattle.export.specs.Steps.{Stepped, calledOf, toldOf, stepOf, steppedOf}
 use Rattle.export.specs.Values.{wide, foundSaid}
+use Rattle.smtwriter.specs.Written.{writtenOf}
+use Rattle.smtwriter.specs.declared.Written.{Written}
+use Rattle.smtwriter.specs.declared.Written.the-variants as written-as
+use Rattle.export.specs.Texts.{writtenSaid}
 
 -- Beside a number other than 0, k zeros; or a place and k zeros
 abbrev pub Zeros : ℕ → Said → Type 0
@@ -133,3 +137,14 @@ image-beside image low high = way (readOf image (wide low high))
     way (Pattern p) h = absurd (h refl)
     way TooWide h = refl
     way Short h = refl
+
+-- A ROOT'S TEXT: a count of bytes stands beside 0, a node beside 8
+pub text-beside : (w : List ℕ) (n root room : ℕ) → let x = writtenSaid (writtenOf w n root room) in leb (x .number) 8 ≡ false → x .words ≡ 0 ∷ []
+text-beside w n root room = way (writtenOf w n root room)
+  where
+    way : (a : Written) → leb (writtenSaid a .number) 8 ≡ false → writtenSaid a .words ≡ 0 ∷ []
+    way (written-as.Bytes k) e = let z : true ≡ false = e in let t : _≡_ {A = ℕ} 0 1 = cc in absurd (omega arith)
+    way (written-as.Fault i) e = let z : true ≡ false = e in let t : _≡_ {A = ℕ} 0 1 = cc in absurd (omega arith)
+    way written-as.Room e = refl
+    way written-as.NoRoot e = refl
+    way written-as.Short e = refl

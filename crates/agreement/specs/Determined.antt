@@ -4,7 +4,7 @@
 -- of an answer (r, s) and of the parameters at exit (x, y), of which a slice's words are its `now`
 use mathlib.Core.Path.{_≡_, refl, sym, ap, _∙_}
 use mathlib.Core.Bool.{Bool, cond}
-use mathlib.Core.List.{List}
+use mathlib.Core.List.{List, []}
 use Prim.Native.Nat.{ℕ, _<_}
 use lib.Dec.{eqb}
 use lib.Seq.{sets}
@@ -25,16 +25,25 @@ use Rattle.forms.specs.declared.Instruction.{Instruction}
 use Rattle.details.specs.Why.{detailOf}
 use Rattle.lifter.specs.Lift as lifter
 use Rattle.lifter.specs.declared.Lifted as lifter-declared
+use Rattle.writing.specs.Put.{Put}
 use Rattle.listing.specs.Run.{Ran, Runs}
 use Rattle.listing.specs.Listing.{Lists, numberOf}
 use Rattle.listing.specs.declared.Stop.{Stop}
 use Rattle.listing.specs.declared.Listed.{Listed}
+use Rattle.sorts.specs.declared.Verdict.{Verdict}
+use Rattle.evaluator.specs.Table.{tableAfter, Tables}
 use Rattle.evaluator.specs.Outcome.{columnAfter}
 use Rattle.evaluator.specs.declared.Outcome.{Outcome}
+use Rattle.smttext.specs.Text.{textOf}
+use Rattle.smtwriter.specs.Written.{bytesAfter, Writes}
+use Rattle.smtwriter.specs.declared.Written.{Written}
+use Rattle.smtlive.specs.Apart.{choices-apart}
+use Rattle.smttokens.specs.Taken.{shown, state, one-token}
 use Rattle.export.specs.Answers.{Said, Tells, ReadsRecord}
 use Rattle.export.specs.Lifts.{Lifted, Lifts}
 use Rattle.export.specs.Steps.{Stepped, Steps}
 use Rattle.export.specs.Values.{ReadsImage, WritesImage, ChecksNodes, EvaluatesNodes}
+use Rattle.export.specs.Texts.{WritesText}
 
 -- What a contract claims, at lifetimes, of arguments, an answer and the parameters at exit
 module _ {L : Type 0} {A R E : L → Type 0} (P : (κ : L) → A κ → R κ → E κ → Type 0) where
@@ -143,8 +152,20 @@ module _ {r s : ℕ} where
   evaluates : {w : List ℕ} {n : ℕ} {g col out l m l₂ m₂ : List ℕ} → EvaluatesNodes w n g col out r l l₂ → EvaluatesNodes w n g col out s m m₂ → (r ≡ s) × (l ≡ m) × (l₂ ≡ m₂)
   evaluates p q = let w = tells (p .told) (q .told) in (w .0, p .column ∙ sym (q .column), w .1)
 
+  texts : {w : List ℕ} {n root : ℕ} {text out l m l₂ m₂ : List ℕ} → WritesText w n root text out r l l₂ → WritesText w n root text out s m m₂ → (r ≡ s) × (l ≡ m) × (l₂ ≡ m₂)
+  texts p q = let w = tells (p .told) (q .told) in (w .0, p .bytes ∙ sym (q .bytes), w .1)
+
+tables : {w : List ℕ} {n : ℕ} {r s : Verdict} {old l m : List ℕ} → Tables w n r old l → Tables w n s old m → (r ≡ s) × (l ≡ m)
+tables {w} {n} {old = old} p q = follows (λ (v : Verdict). tableAfter v w n old) (p .verdict, p .table) (q .verdict, q .table)
+
+written : {w : List ℕ} {n root : ℕ} {r s : Written} {old l m : List ℕ} → Writes w n root r old l → Writes w n root s old m → (r ≡ s) × (l ≡ m)
+written {w} {root = root} {old = old} p q = follows (λ (a : Written). bytesAfter a (textOf w root) old) (p .answer, p .bytes) (q .answer, q .bytes)
+
 runs : {x : Ran} {r s : Stop} {l m l₂ m₂ : List ℕ} → Runs x r l l₂ → Runs x s m m₂ → (r ≡ s) × (l ≡ m) × (l₂ ≡ m₂)
 runs p q = (p .run ∙ sym (q .run), p .nodes ∙ sym (q .nodes), p .statements ∙ sym (q .statements))
+
+put : {text old l m : List ℕ} {at r s : ℕ} → Put text at r old l → Put text at s old m → (r ≡ s) × (l ≡ m)
+put p q = (p .place ∙ sym (q .place), p .bytes ∙ sym (q .bytes))
 
 listed : {text old l m : List ℕ} {r s : Listed} → Lists text r old l → Lists text s old m → (r ≡ s) × (l ≡ m)
 listed {text} {old} p q =
@@ -535,14 +556,31 @@ image·write κ a r s x y = both
 
 -- sorts
 
+pub sorts·is-bits : Determined Rattle.sorts.proofs.is_bits.Reads.Post
+sorts·is-bits κ a r s x y = one
+
 pub sorts·is-float : Determined Rattle.sorts.proofs.is_float.Reads.Post
 sorts·is-float κ a r s x y = one
+
+pub sorts·is-stored : Determined Rattle.sorts.proofs.is_stored.Reads.Post
+sorts·is-stored κ a r s x y = one
+
+pub sorts·is-word : Determined Rattle.sorts.proofs.is_word.Reads.Post
+sorts·is-word κ a r s x y = one
 
 pub sorts·pattern-width : Determined Rattle.sorts.proofs.pattern_width.Reads.Post
 sorts·pattern-width κ a r s x y = one
 
 pub sorts·sort-of : Determined Rattle.sorts.proofs.sort_of.Reads.Post
 sorts·sort-of κ a r s x y = one
+
+-- needs
+
+pub needs·arity : Determined Rattle.needs.proofs.arity.Reads.Post
+needs·arity κ a r s x y = one
+
+pub needs·mark : Determined₁ Rattle.needs.proofs.mark.Reads.Post (λ κ x. now (x .1 .1 .0))
+needs·mark κ a r s x y p q = (refl, one p q)
 
 -- evaluator
 
@@ -551,6 +589,39 @@ evaluator·check κ a r s x y = one
 
 pub evaluator·evaluate : Determined₁ Rattle.evaluator.proofs.evaluate.Reads.Post (λ κ x. now (x .1 .1 .1 .0))
 evaluator·evaluate κ a r s x y = follows (λ (o : Outcome). columnAfter o (now (a .0)) (a .1 .0) (now (a .1 .1 .0)) (now (a .1 .1 .1 .0)))
+
+pub evaluator·fill : Determined₁ Rattle.evaluator.proofs.table.fill.Reads.Post (λ κ x. now (x .1 .1 .0))
+evaluator·fill κ a r s x y = tables
+
+-- smtwriter
+
+pub smtwriter·write : Determined₁ Rattle.smtwriter.proofs.write.Reads.Post (λ κ x. now (x .1 .1 .1 .0))
+smtwriter·write κ a r s x y = written
+
+-- smtchoices
+
+pub smtchoices·kind-at : Determined Rattle.smtchoices.proofs.kind_at.Reads.Post
+smtchoices·kind-at κ a r s x y = one
+
+pub smtchoices·sort-at : Determined Rattle.smtchoices.proofs.sort_at.Reads.Post
+smtchoices·sort-at κ a r s x y = one
+
+pub smtchoices·format-of : Determined Rattle.smtchoices.proofs.format_of.Reads.Post
+smtchoices·format-of κ a r s x y = one
+
+pub smtchoices·ok-at : Determined Rattle.smtchoices.proofs.ok_at.Reads.Post
+smtchoices·ok-at κ a r s x y = one
+
+-- smttokens
+
+pub smttokens·size-at : Determined Rattle.smttokens.proofs.size_at.Reads.Post
+smttokens·size-at κ a r s x y = one
+
+pub smttokens·take : Determined Rattle.smttokens.proofs.take.Reads.Post
+smttokens·take κ a r s x y p q =
+    one-token _ _ _ _
+    (choices-apart (state (shown (now (a .1 .0)) (now (a .1 .1 .0)) (now (a .1 .1 .1 .0)) (now (a .1 .1 .1 .1 .0))) (a .1 .1 .1 .1 .1 .0) (a .1 .1 .1 .1 .1 .1 .0)))
+    r s (p .is [] []) (q .is [] [])
 
 -- answers
 
@@ -596,6 +667,12 @@ answers·evaluated-number κ a r s x y = one
 pub answers·evaluated-node : Determined Rattle.answers.proofs.values.evaluated_node.Reads.Post
 answers·evaluated-node κ a r s x y = one
 
+pub answers·text-number : Determined Rattle.answers.proofs.smt.text_number.Reads.Post
+answers·text-number κ a r s x y = one
+
+pub answers·text-place : Determined Rattle.answers.proofs.smt.text_place.Reads.Post
+answers·text-place κ a r s x y = one
+
 -- export
 
 pub export·x87-classify : Determined₁ Rattle.export.proofs.x87_classify.Reads.Post (λ κ x. now (x .1 .0))
@@ -629,6 +706,23 @@ export·x87-check κ a r s x y = tells
 
 pub export·x87-evaluate : Determined₂ Rattle.export.proofs.values.x87_evaluate.Reads.Post (λ κ x. now (x .1 .1 .1 .0)) (λ κ x. now (x .1 .1 .1 .1 .0))
 export·x87-evaluate κ a r s x y = evaluates
+
+pub export·x87-smt-write : Determined₂ Rattle.export.proofs.smt.x87_smt_write.Reads.Post (λ κ x. now (x .1 .1 .1 .0)) (λ κ x. now (x .1 .1 .1 .1 .0))
+export·x87-smt-write κ a r s x y = texts
+
+-- writing
+
+pub writing·put : Determined₁ Rattle.writing.proofs.put.Reads.Post (λ κ x. now (x .0))
+writing·put κ a r s x y = put
+
+pub writing·all : Determined₁ Rattle.writing.proofs.all.Reads.Post (λ κ x. now (x .0))
+writing·all κ a r s x y = put
+
+pub writing·decimal : Determined₁ Rattle.writing.proofs.decimal.Reads.Post (λ κ x. now (x .0))
+writing·decimal κ a r s x y = put
+
+pub writing·binary : Determined₁ Rattle.writing.proofs.binary.Reads.Post (λ κ x. now (x .0))
+writing·binary κ a r s x y = put
 
 -- listing
 

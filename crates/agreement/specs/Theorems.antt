@@ -4,9 +4,9 @@
 use mathlib.Core.Path.{_≡_}
 use mathlib.Core.Bool.{Bool, true, false}
 use mathlib.Core.List.{List, [], _∷_}
-use Prim.Native.Nat.{ℕ, _/_, _≤_, _<_}
+use Prim.Native.Nat.{ℕ, suc, _/_, _^_, _≤_, _<_}
 use lib.Dec.{leb}
-use lib.ListN.{length, take, replicate}
+use lib.ListN.{length, getD, take, replicate}
 use denote.Ref.{now}
 use Rattle.lists.specs.Rows.{row, wrote}
 use Rattle.forms.specs.declared.Instruction.{Instruction}
@@ -47,6 +47,18 @@ use Rattle.agreement.specs.Refused.{refused}
 use Rattle.agreement.specs.Calls.{Call, makes, allHanded, inHand, calls-run}
 use Rattle.agreement.specs.Declines.{Because, declines-so, declines-only}
 use Rattle.agreement.specs.Declines.Said.{says}
+use Rattle.sorts.specs.Check.{checkOf}
+use Rattle.sorts.specs.declared.Verdict.the-variants.{Passed}
+use Rattle.needs.specs.Needed.{Needed, marks}
+use Rattle.needs.specs.Laws.{On, marks-needed}
+use Rattle.smttext.specs.Text as Text
+use Rattle.smttext.specs.Subset.{Says, InSubset, compact}
+use Rattle.viable.specs.Runs.{Stops, Goes}
+use Rattle.smtgrammar.specs.State.{State, start}
+use Rattle.smtgrammar.specs.Grammar.{Token, done, Reads}
+use Rattle.smtlive.specs.Live.{Live}
+use Rattle.smtlive.specs.Goes.{goes}
+use Rattle.smtsubset.specs.Subset.{Read, Stopped, reads-all, only-reads, stops-there, written, same-formula}
 use Rattle.agreement.specs.Beside.{Zeros, PlaceAndZeros, classify-beside, step-beside}
 
 -- 1 WHAT IS LIFTED IS SORTED: the state is valid, the sort check passes the nodes, each used place of the stack names a node of 79 bits,
@@ -149,3 +161,29 @@ theorem-15-only = declines-only
 pub theorem-15-said : (h : Held) (i : Instruction) → answered h i ≡ 1
     → liftOf (h .st) i (h .nodes) (h .statements) .ss ≡ row (h .st .statements) 6 1 (i .address) (detailOf (answered h i) i) ∷ []
 theorem-15-said = says
+
+-- 16 WHAT IS WRITTEN SAYS WHAT THE ROOT NEEDS: the text of a root of a list that passes is a text of the subset, said by the list and the marks of what the root needs
+pub theorem-16 : (w : List ℕ) (n r : ℕ) → checkOf w n ≡ Passed → r < n → ((j : ℕ) → getD w j 0 < 2 ^ 64) → Says (Text.textOf w r) w (marks w r) (suc r)
+theorem-16 = written
+
+pub theorem-16-needs : (w : List ℕ) (r i : ℕ) → (On (marks w r) i → Needed w r i) × (Needed w r i → On (marks w r) i)
+theorem-16-needs = marks-needed
+
+-- 17 ONE TEXT, ONE FORMULA: any two lists that say a text say the same rows
+pub theorem-17 : (x w m w′ m′ : List ℕ) (n n′ : ℕ) → Says x w m n → Says x w′ m′ n′ → compact w m n ≡ compact w′ m′ n′
+theorem-17 = same-formula
+
+-- 18 THE GRAMMAR IS THE SUBSET: a text of the subset is a run of the grammar, which leaves the rows of each list that says it; and a run is a text of the subset
+pub theorem-18 : (x w m : List ℕ) (n : ℕ) → Says x w m n → Read x w m n
+theorem-18 = reads-all
+
+pub theorem-18-only : (x : List ℕ) (ω : State) → Reads x ω → InSubset x
+theorem-18-only = only-reads
+
+-- 19 WHERE THE GRAMMAR STOPS IS EXACT: the bytes before the place begin some text of the subset, and no text of the subset begins with one byte more, or, at the end, is the whole;
+-- and no beginning of a text is a dead end
+pub theorem-19 : (x : List ℕ) (p : ℕ) → Stops Token done start x p → Stopped x p
+theorem-19 = stops-there
+
+pub theorem-19-on : (σ : State) → Live σ → Goes Token done σ
+theorem-19-on = goes

@@ -1,12 +1,12 @@
 -- A node's sort out of the table, one turn of the loop that fills it, and what the loop comes to.
-use mathlib.Core.List.{List}
-use mathlib.Core.Path.{_≡_, sym, ap, _∙_}
-use Prim.Native.Nat.{ℕ, _+_, _*_, _/_, _≤_, _<_}
+use mathlib.Core.List.{List, [], _∷_, _++_, append-assoc}
+use mathlib.Core.Path.{_≡_, refl, sym, ap, _∙_}
+use Prim.Native.Nat.{ℕ, suc, _+_, _*_, _/_, _≤_, _<_}
 use native.Mathlib.Numerals.{add-one}
 use native.Mathlib.Omega.{arith}
 use borrow.Author.Tests.{le-leb, lt-leb}
-use lib.ListN.{length, getD, take, set, length-take}
-use lib.Seq.{take-suc-set}
+use lib.ListN.{length, getD, take, drop, set, length-take, length-append, length-drop}
+use lib.Seq.{take-suc-set, take-suc, drop-cons, set-at, length-take-le}
 use Rattle.lists.specs.Rows.{roomOf}
 use Rattle.sorts.specs.Sorts.{sortRow}
 use Rattle.sorts.specs.Lists.{rowSort, sorts}
@@ -15,6 +15,7 @@ use Rattle.sorts.specs.Laws.{Passes, sorts-suc, length-sorts, fault-at, passed-
 use Rattle.sorts.specs.declared.Verdict.the-variants.{Passed, Fault, Room}
 use Rattle.sorts.specs.declared.Verdict.{Verdict}
 use Rattle.evaluator.specs.Inside.{Tabulated, ScanReady}
+use Rattle.evaluator.specs.Table.{Tables, tableAfter}
 
 -- the sort of a node from the sorts looked up in a table whose first i entries are those of the earlier nodes
 pub row-from : (w t : List ℕ) (i r ra rb rc : ℕ) → take i t ≡ sorts w i
@@ -66,3 +67,27 @@ scanned w g t n v x p h =
       long = held w t n (x .table p);
       table = x .table p;
     }
+
+-- entries copied one after the other: the first i, one more, and how long the table stays
+pub copied : (s t t₀ : List ℕ) (i : ℕ) → i < length s → i < length t₀ → t ≡ take i s ++ drop i t₀ → set t i (getD s i 0) ≡ take (i + 1) s ++ drop (i + 1) t₀
+copied s t t₀ i h k e =
+    rw (e, drop-cons t₀ i 0 k, set-at (take i s) (getD t₀ i 0) (drop (suc i) t₀) (getD s i 0) i (length-take-le i s (omega arith)), add-one, take-suc s i 0 h, append-assoc (take i s) (getD s i 0 ∷ []) (drop (suc i) t₀))
+
+pub copied-long : (s t t₀ : List ℕ) (i : ℕ) → i ≤ length s → i ≤ length t₀ → t ≡ take i s ++ drop i t₀ → length t ≡ length t₀
+copied-long s t t₀ i h k e = ap length e ∙ omega (arith, length-append (take i s) (drop i t₀), length-take-le i s h, length-drop i t₀)
+
+-- the table of a list that passes, copied
+pub filled : (w s t₀ t : List ℕ) (n : ℕ) (v : Verdict) → 65535 ≤ length t₀ → Tabulated w n v s → v ≡ Passed → t ≡ take n s ++ drop n t₀ → Tables w n Passed t₀ t
+filled w s t₀ t n v h x p e = record { verdict = rw (le-leb 65535 (length t₀) h) (sym p ∙ x .verdict); table = rw (← x .table p) e }
+
+-- .. and of one that does not
+pub refused : (w s t : List ℕ) (n : ℕ) (v u : Verdict) → 65535 ≤ length t → Tabulated w n v s → v ≡ u → t ≡ tableAfter u w n t → Tables w n u t t
+refused w s t n v u h x p e = record { verdict = rw (le-leb 65535 (length t) h) (sym p ∙ x .verdict); table = e }
+
+pub no-table : (w t : List ℕ) (n : ℕ) → length t < 65535 → Tables w n Room t t
+no-table w t n h = record { verdict = rw (lt-leb 65535 (length t) h); table = refl }
+
+-- a table of 65,535 entries has one for each node of a list that passes
+pub room-for : (w s : List ℕ) (n m : ℕ) (v : Verdict) → 65535 ≤ m → Tabulated w n v s → v ≡ Passed → (n ≤ m) × (n ≤ length s)
+unfolding roomOf
+room-for w s n m v h x p = let r = passed-room w n (sym (x .verdict) ∙ p) .room in (omega arith, held w s n (x .table p))

@@ -8,3 +8,4 @@ pub mod Inside
 pub mod Order
 pub mod Fits
 pub mod Laws
+pub mod Table

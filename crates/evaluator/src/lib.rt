@@ -1,5 +1,5 @@
 // The check that each node of a list has a sort, and the values of the nodes, into a lent column of two words a node, low first.
-mod table;
+pub mod table;
 
 ghost use mathlib.Core.Path.{_≡_};
 ghost use mathlib.Core.Bool.{cond};

@@ -1,10 +1,12 @@
 // The table of sorts of a list's nodes, one entry a node.
 ghost use mathlib.Core.Path.{_≡_};
 ghost use Prim.Native.Nat.{_+_, _*_, _≤_};
-ghost use lib.ListN.{length, getD, take};
+ghost use mathlib.Core.List.{_++_};
+ghost use lib.ListN.{length, getD, take, drop};
 ghost use Rattle.sorts.specs.Lists.{sorts, rowSort};
 ghost use Rattle.sorts.specs.Check.{checkOf};
 ghost use Rattle.evaluator.specs.Inside.{Tabulated};
+ghost use Rattle.evaluator.specs.Table.{Tables};
 use sorts::Verdict;
 
 // The sort of an operand of node n: 0 where it is not earlier.
@@ -46,4 +48,34 @@ pub(crate) fn tabulate(nodes: &[u64], count: usize, t: &mut [u16]) -> Verdict
         i += 1;
     }
     Verdict::Passed
+}
+
+// Copies the first n entries of a table to the front of another one.
+fn copy(t: &mut [u16], from: &[u16], n: usize)
+    requires { ⌜ (n ≤ length (now t)) × (n ≤ length (now from)) ⌝ }
+    ensures { λ _. ⌜ now (t .exit) ≡ take n (now (from .entry)) ++ drop n (now (t .entry)) ⌝ }
+{
+    let mut i = 0;
+    while i < n {
+        t[i] = from[i];
+        i += 1;
+    }
+}
+
+// The sorts of the first `count` nodes to the front of a lent table of at least 65,535 entries, or what stands in the way.
+pub fn fill(nodes: &[u64], count: usize, t: &mut [u16]) -> Verdict
+    ensures { λ r. ⌜ Tables (now (nodes .entry)) count r (now (t .entry)) (now (t .exit)) ⌝ }
+{
+    if t.len() < 65535 {
+        return Verdict::Room;
+    }
+    let mut own = [0u16; 65536];
+    match tabulate(nodes, count, &mut own) {
+        Verdict::Room => Verdict::Room,
+        Verdict::Fault(i) => Verdict::Fault(i),
+        Verdict::Passed => {
+            copy(t, &own, count);
+            Verdict::Passed
+        }
+    }
 }

@@ -3,3 +3,4 @@ pub mod Answers
 pub mod Lifts
 pub mod Steps
 pub mod Values
+pub mod Texts

@@ -1,12 +1,14 @@
 -- How long a listing can be: no word has more than 20 digits.
 use mathlib.Core.Bool.{Bool, true, false, cond}
 use mathlib.Core.List.{List, [], _∷_, _++_}
-use Prim.Native.Nat.{ℕ, zero, suc, _+_, _*_, _/_, _%_, _≤_}
+use Prim.Native.Nat.{ℕ, zero, suc, _+_, _*_, _≤_}
 use native.Mathlib.Omega.{arith}
-use lib.Dec.{ltb, eqb}
+use lib.Dec.{eqb}
 use lib.ListN.{length, getD, take, length-append, length-take}
 use Rattle.lists.specs.declared.State.{State}
-use Rattle.listing.specs.Text.{digits, numbers, line, rows}
+use Rattle.writing.specs.Bytes.{decimal}
+use Rattle.writing.specs.Laws.{digits-most}
+use Rattle.listing.specs.Text.{numbers, line, rows}
 use Rattle.listing.specs.Listing.{places, stateLine, refusalLine, textOf}
 use Rattle.listing.specs.declared.Stop.{Stop}
 
@@ -14,18 +16,11 @@ either : (t : Bool) (a b : List ℕ) (n : ℕ) → length a ≤ n → length b �
 either true a b n h k = h
 either false a b n h k = k
 
--- no more than k digits, 21 bytes a number, two beside a line's numbers, and five numbers a row
-pub digits-most : (k v : ℕ) → length (digits k v) ≤ k
-unfolding digits
-digits-most zero v = omega arith
-digits-most (suc k) v =
-    either (ltb v 10) ((48 + v) ∷ []) (digits k (v / 10) ++ ((48 + v % 10) ∷ [])) (suc k) (omega arith)
-    (omega (arith, length-append (digits k (v / 10)) ((48 + v % 10) ∷ []), digits-most k (v / 10)))
-
+-- 21 bytes a number, two beside a line's numbers, and five numbers a row
 pub numbers-most : (l : List ℕ) → length (numbers l) ≤ 21 * length l
-unfolding numbers
+unfolding numbers decimal
 numbers-most [] = omega arith
-numbers-most (v ∷ l) = omega (arith, length-append (digits 20 v) (numbers l), digits-most 20 v, numbers-most l)
+numbers-most (v ∷ l) = omega (arith, length-append (decimal v) (numbers l), digits-most 20 v, numbers-most l)
 
 pub line-most : (letter : ℕ) (l : List ℕ) → length (line letter l) ≤ 21 * length l + 2
 unfolding line

@@ -1,50 +1,21 @@
-// Writes the listing's text byte by byte: each function is given a place and gives back the next; bytes past the end of `out` are left out.
+// Writes the listing's text: each function is given a place and gives back the next.
 ghost use mathlib.Core.Path.{_≡_};
-ghost use mathlib.Core.List.{[], _∷_};
-ghost use Prim.Native.Nat.{_+_, _*_, _≤_, _<_};
-ghost use lib.ListN.{length, getD};
-ghost use Rattle.listing.specs.Text.{Put, digits, numbers, line, rows, most};
+ghost use lib.ListN.{getD};
+ghost use Rattle.writing.specs.Put.{Put};
+ghost use Rattle.listing.specs.Text.{numbers, line, rows};
 ghost use Rattle.listing.specs.Listing.{places, stateLine, refusalLine, textOf};
 use crate::Stop;
 use lists::State;
 
-// One byte.
-fn put(out: &mut [u8], at: usize, b: u8) -> usize
-    requires { ⌜ at < most ⌝ }
-    ensures { λ r. ⌜ Put (b ∷ []) at r (now (out .entry)) (now (out .exit)) ⌝ }
-{
-    if at < out.len() {
-        out[at] = b;
-        return at + 1;
-    }
-    at + 1
-}
-
-// The digits of a number, at most k of them.
-fn decimal(out: &mut [u8], at: usize, v: u64, k: usize) -> usize
-    requires { ⌜ at + k ≤ most ⌝ }
-    ensures { λ r. ⌜ Put (digits k v) at r (now (out .entry)) (now (out .exit)) ⌝ }
-{
-    if k == 0 {
-        return at;
-    }
-    if v < 10 {
-        return put(out, at, 48 + v as u8);
-    }
-    let next = decimal(out, at, v / 10, k - 1);
-    put(out, next, 48 + (v % 10) as u8)
-}
-
 // A blank before each number.
 fn numbers(out: &mut [u8], at: usize, values: &[u64]) -> usize
-    requires { ⌜ at + 21 * length (now values) ≤ most ⌝ }
     ensures { λ r. ⌜ Put (numbers (now (values .entry))) at r (now (out .entry)) (now (out .exit)) ⌝ }
 {
     let mut p = at;
     let mut i = 0;
     while i < values.len() {
-        let q = put(out, p, 32);
-        p = decimal(out, q, values[i], 20);
+        let q = writing::put(out, p, 32);
+        p = writing::decimal(out, q, values[i]);
         i += 1;
     }
     p
@@ -52,12 +23,11 @@ fn numbers(out: &mut [u8], at: usize, values: &[u64]) -> usize
 
 // A letter, numbers, and the line's end.
 fn line(out: &mut [u8], at: usize, letter: u8, values: &[u64]) -> usize
-    requires { ⌜ at + (21 * length (now values) + 2) ≤ most ⌝ }
     ensures { λ r. ⌜ Put (line letter (now (values .entry))) at r (now (out .entry)) (now (out .exit)) ⌝ }
 {
-    let p = put(out, at, letter);
+    let p = writing::put(out, at, letter);
     let q = numbers(out, p, values);
-    put(out, q, 10)
+    writing::put(out, q, 10)
 }
 
 // A word of a list, 0 past its end.
@@ -69,7 +39,6 @@ fn word(w: &[u64], i: usize) -> u64
 
 // One line for each of the first rows of a list.
 fn rows(out: &mut [u8], at: usize, letter: u8, w: &[u64], count: u32) -> usize
-    requires { ⌜ at + 107 * count ≤ most ⌝ }
     ensures { λ r. ⌜ Put (rows letter (now (w .entry)) count) at r (now (out .entry)) (now (out .exit)) ⌝ }
 {
     let mut p = at;
@@ -109,7 +78,6 @@ fn places(s: State) -> [u64; 8]
 
 // Depth, inputs, temporaries, and the used places.
 fn state_line(out: &mut [u8], at: usize, s: State) -> usize
-    requires { ⌜ at + 233 ≤ most ⌝ }
     ensures { λ r. ⌜ Put (stateLine s) at r (now (out .entry)) (now (out .exit)) ⌝ }
 {
     let p = places(s);
@@ -135,7 +103,6 @@ fn state_line(out: &mut [u8], at: usize, s: State) -> usize
 
 // A refusal's number and place.
 fn refusal_line(out: &mut [u8], at: usize, number: u32, place: usize) -> usize
-    requires { ⌜ at + 44 ≤ most ⌝ }
     ensures { λ r. ⌜ Put (refusalLine number place) at r (now (out .entry)) (now (out .exit)) ⌝ }
 {
     if number == 0 {

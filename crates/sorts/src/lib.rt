@@ -15,7 +15,7 @@ pub enum Verdict {
     Room,
 }
 
-fn is_bits(s: u64) -> bool
+pub fn is_bits(s: u64) -> bool
     ensures { λ r. ⌜ r ≡ isBits s ⌝ }
 {
     (1 <= s) & (s <= 80)
@@ -27,13 +27,13 @@ pub fn is_float(s: u64) -> bool
     (s == 2072) | (s == 2869) | (s == 3904)
 }
 
-fn is_stored(s: u64) -> bool
+pub fn is_stored(s: u64) -> bool
     ensures { λ r. ⌜ r ≡ isStored s ⌝ }
 {
     (s == 16) | (s == 32) | (s == 64) | (s == 80)
 }
 
-fn is_word(s: u64) -> bool
+pub fn is_word(s: u64) -> bool
     ensures { λ r. ⌜ r ≡ isWord s ⌝ }
 {
     (s == 16) | (s == 32) | (s == 64)

@@ -1,4 +1,4 @@
-use Rattle.listing.proofs.Writing.{fits, does-not}
+use Rattle.listing.proofs.Writing.{whole, none}
 use borrow.Author.Needs.{needs}
 use Rattle.listing.proofs.list.Statement.{statement}
 use Rattle.listing.proofs.list.Tie as tie
@@ -16,10 +16,10 @@ same-length : tie.Need-same-length
 same-length c = search needs
 
 returns : tie.Need-returns
-returns c = fits (c .before .before .before .before .before .before .text .ensures) (c .before .before .before .before .if1 .taken) (c .before .before .text2 .ensures)
+returns c = whole (c .before .before .before .before .before .before .text .ensures) (c .before .before .before .before .if1 .taken) (c .before .before .text2 .ensures)
 
 returns-2 : tie.Need-returns-2
-returns-2 c = does-not (c .before .before .text .ensures) (c .if1 .left)
+returns-2 c = none (c .before .before .text .ensures) (c .if1 .left)
 
 pub list-spec : {M : Type 1} → statement M
 list-spec =

@@ -3,8 +3,10 @@ use Prim.Native.Nat.{_≤_, _-_}
 use native.Mathlib.Omega.{arith}
 use lib.ListN.{length, take}
 use lib.Seq.{take-all}
-use Rattle.listing.specs.Text.{Put, numbers}
-use Rattle.listing.proofs.Writing.{then, long, also, nothing, numbers-take, numbers-place}
+use Rattle.writing.specs.Put.{Put}
+use Rattle.writing.specs.Laws.{then, long, also, nothing}
+use Rattle.listing.specs.Text.{numbers}
+use Rattle.listing.proofs.Writing.{numbers-take}
 use Rattle.listing.proofs.print.numbers.Statement.{statement}
 use Rattle.listing.proofs.print.numbers.Tie as tie
 
@@ -16,10 +18,10 @@ abbrev μ-loop : tie.MeasureT-loop
 
 loop-holds : tie.Need-loop-holds Inv-loop μ-loop
 unfolding numbers
-loop-holds c = (omega arith, nothing _ _)
+loop-holds c = (omega arith, nothing (omega arith) (omega arith))
 
 put-requires : tie.Need-put-requires Inv-loop μ-loop
-put-requires c κs = let l = c .before .before .loop in omega (arith, numbers-place _ _ (l .inv .0) (l .inv .1))
+put-requires c κs = search needs
 
 mul-decimal : tie.Need-mul-decimal Inv-loop μ-loop
 mul-decimal c = search needs
@@ -28,7 +30,7 @@ shared-slice-read-decimal : tie.Need-shared-slice-read-decimal Inv-loop μ-loop
 shared-slice-read-decimal c = search needs
 
 decimal-requires : tie.Need-decimal-requires Inv-loop μ-loop
-decimal-requires c κs = let l = c .before .before .before .before .before .before .before .loop in omega (arith, numbers-place _ _ (l .inv .0) (l .inv .1), c .before .before .before .before .put .ensures .place)
+decimal-requires c κs = search needs
 
 add-i : tie.Need-add-i Inv-loop μ-loop
 add-i c = search needs

@@ -1,13 +1,14 @@
+use native.Mathlib.Omega.{arith}
 use borrow.Author.Tests.{eq-eqb, ne-eqb}
 use Rattle.listing.specs.Listing.{refusalLine}
-use Rattle.listing.proofs.Writing.{nothing}
+use Rattle.writing.specs.Laws.{nothing}
 use borrow.Author.Needs.{needs}
 use Rattle.listing.proofs.print.refusal_line.Statement.{statement}
 use Rattle.listing.proofs.print.refusal_line.Tie as tie
 
 returns : tie.Need-returns
 unfolding refusalLine
-returns c = rw (eq-eqb _ _ (c .if1 .taken)) (nothing _ _)
+returns c = rw (eq-eqb _ _ (c .if1 .taken)) (nothing (omega arith) (omega arith))
 
 slice-aggregate-line : tie.Need-slice-aggregate-line
 slice-aggregate-line c = search needs

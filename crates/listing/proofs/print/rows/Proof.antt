@@ -2,8 +2,10 @@ use borrow.Author.Needs.{needs}
 use mathlib.Core.Path.{_≡_}
 use Prim.Native.Nat.{_≤_, _-_}
 use native.Mathlib.Omega.{arith}
-use Rattle.listing.specs.Text.{Put, rows}
-use Rattle.listing.proofs.Writing.{long, nothing, rows-place, row-on}
+use Rattle.writing.specs.Put.{Put}
+use Rattle.writing.specs.Laws.{long, nothing}
+use Rattle.listing.specs.Text.{rows}
+use Rattle.listing.proofs.Writing.{row-on}
 use Rattle.listing.proofs.print.rows.Statement.{statement}
 use Rattle.listing.proofs.print.rows.Tie as tie
 
@@ -15,7 +17,7 @@ abbrev μ-loop : tie.MeasureT-loop
 
 loop-holds : tie.Need-loop-holds Inv-loop μ-loop
 unfolding rows
-loop-holds c = (omega arith, nothing _ _)
+loop-holds c = (omega arith, nothing (omega arith) (omega arith))
 
 mul-j : tie.Need-mul-j Inv-loop μ-loop
 mul-j c = search needs
@@ -45,7 +47,7 @@ slice-aggregate-line : tie.Need-slice-aggregate-line Inv-loop μ-loop
 slice-aggregate-line c = search needs
 
 line-requires : tie.Need-line-requires Inv-loop μ-loop
-line-requires c κs = let l = c .before .before .before .before .before .before .before .loop in omega (arith, rows-place _ _ _ (l .inv .1))
+line-requires c κs = search needs
 
 add-i : tie.Need-add-i Inv-loop μ-loop
 add-i c = search needs

@@ -1,6 +1,7 @@
 use Rattle.listing.specs.Text.{line}
 use Rattle.listing.specs.Listing.{stateLine, places}
-use Rattle.listing.proofs.Writing.{also, few-places, all-places}
+use Rattle.writing.specs.Laws.{also}
+use Rattle.listing.proofs.Writing.{few-places, all-places}
 use borrow.Author.Needs.{needs}
 use Rattle.listing.proofs.print.state_line.Statement.{statement}
 use Rattle.listing.proofs.print.state_line.Tie as tie

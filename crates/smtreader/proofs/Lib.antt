@@ -1,0 +1,4 @@
+pub mod Seek
+pub mod Bounds
+pub mod Ends
+pub mod Ranks

@@ -1,0 +1,1 @@
+// The runs of the grammar are the texts of the subset: laws alone.

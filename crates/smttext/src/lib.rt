@@ -1,0 +1,1 @@
+// The SMT-LIB text of formulas: definitions and laws alone.

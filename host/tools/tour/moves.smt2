@@ -1,0 +1,10 @@
+; The sample is above an average of one degree or more: is the average that is stored ever the old one?
+(assert (= x52_2_3 #x3e000000))
+(define-fun one () (_ FloatingPoint 8 24) ((_ to_fp 8 24) RNE 1.0))
+(define-fun half () (_ FloatingPoint 8 24) ((_ to_fp 8 24) RNE 180.0))
+(assert (fp.leq one n5))
+(assert (fp.lt n5 n1))
+(assert (fp.leq n1 half))
+(assert (fp.eq n65 n5))
+(check-sat)
+(get-value ((fp.to_real n1) (fp.to_real n5) (fp.to_real n65)))
