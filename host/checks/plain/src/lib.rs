@@ -1,13 +1,15 @@
 //! The rules of the manual (`docs/MANUAL.md`) said plainly in Rust: what
 //! an instruction is and how it lies in bytes, which instructions are
 //! refused, why one is declined, how records are read, which states are
-//! valid, which nodes have a sort, which given values fit, and what an
-//! 80-bit image holds. Written for being read, not for speed.
+//! valid, which nodes have a sort, which given values fit, what an 80-bit
+//! image holds, and how formulas are written as text and read back. Written
+//! for being read, not for speed.
 
 mod flat;
 pub mod image;
 mod reader;
 mod refusals;
+pub mod smt;
 pub mod sorts;
 pub mod state;
 pub mod values;
@@ -38,6 +40,9 @@ pub const TOO_SHORT: u32 = 10;
 pub const WRONG_MARK: u32 = 11;
 pub const ENDS_EARLY: u32 = 12;
 pub const INPUT_TOO_LONG: u32 = 13;
+pub const NO_ROOT: u32 = 31;
+pub const TEXT_TOO_LONG: u32 = 32;
+pub const NO_TEXT: u32 = 41;
 
 /// Details of a decline, in the order in which they are tested.
 pub const UNKNOWN_NAME: u32 = 21;

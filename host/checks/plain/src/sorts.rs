@@ -40,7 +40,7 @@ impl Format {
         (self.exponent + self.significand).into()
     }
 
-    fn of(number: u64) -> Option<Self> {
+    pub(crate) fn of(number: u64) -> Option<Self> {
         Self::ALL.into_iter().find(|f| f.number() == number)
     }
 }
@@ -63,14 +63,14 @@ impl Sort {
         }
     }
 
-    fn bits(self) -> Option<u64> {
+    pub(crate) fn bits(self) -> Option<u64> {
         match self {
             Self::Bits(width) => Some(width),
             Self::Float(_) => None,
         }
     }
 
-    fn float(self) -> Option<Format> {
+    pub(crate) fn float(self) -> Option<Format> {
         match self {
             Self::Bits(_) => None,
             Self::Float(format) => Some(format),
@@ -125,7 +125,8 @@ pub fn sorts(nodes: &[u64], count: usize) -> Result<Vec<Sort>, Verdict> {
 }
 
 /// The sort of a row, where the nodes before it have these.
-fn sort(&[kind, a, b, c]: &[u64; ROW], earlier: &[Sort]) -> Option<Sort> {
+#[must_use]
+pub fn sort(&[kind, a, b, c]: &[u64; ROW], earlier: &[Sort]) -> Option<Sort> {
     let row = Operands { a, b, c, earlier };
     match kind {
         1 => row.variable(&[79, 16]),
