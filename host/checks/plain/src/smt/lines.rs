@@ -6,7 +6,7 @@ use super::cursor::{Cursor, Token};
 use super::subset::State;
 use super::terms::term;
 use super::text::format_text;
-use crate::sorts::{Format, Sort, WIDEST};
+use crate::sorts::{Format, Sort};
 
 /// What a line is.
 #[derive(Debug, Clone, Copy, PartialEq, Eq)]
@@ -92,11 +92,9 @@ pub fn definition(cursor: &mut Cursor, state: &mut State) -> Token<()> {
 
 /// The sort of a node that is defined.
 fn sort(cursor: &mut Cursor, state: &State, node: u64) -> Token<Sort> {
-    let possible = |&sort: &Sort| state.is_possible(node, sort);
-    let bits = (1..=WIDEST).filter(|&width| possible(&Sort::Bits(width)));
-    let bits: Vec<u64> = bits.collect();
-    let formats = Format::ALL.into_iter();
-    let floats = formats.filter(|&format| possible(&Sort::Float(format)));
+    let sorts = state.sorts(node);
+    let bits: Vec<u64> = sorts.iter().filter_map(|sort| sort.bits()).collect();
+    let floats = sorts.iter().filter_map(|sort| sort.float());
     let floats: Vec<(String, Format)> = floats.map(|f| (format_text(f), f)).collect();
     let words = [
         ("BitVec ", true, bits.is_empty()),

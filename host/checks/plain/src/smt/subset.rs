@@ -46,8 +46,8 @@ impl<'a> State<'a> {
             entries: BTreeMap::new(),
             owed: BTreeMap::new(),
             patterns: Vec::new(),
-            behind_declared: 0,
-            behind_defined: 0,
+            behind_declared: universe.nodes.start,
+            behind_defined: universe.nodes.start,
         }
     }
 
@@ -108,10 +108,7 @@ impl<'a> State<'a> {
 
     /// Numbers of nodes that can be declared next.
     pub fn declarable(&self) -> Numbers {
-        match self.universe.nodes.checked_sub(1) {
-            Some(last) if self.behind_declared <= last => vec![self.behind_declared..=last],
-            _ => Vec::new(),
-        }
+        self.unused(self.behind_declared, self.universe.nodes.end)
     }
 
     /// Kinds that a declared node can have.
@@ -126,7 +123,7 @@ impl<'a> State<'a> {
 
     /// Nodes that a declared node of kind 26 can be of.
     pub fn floats_of(&self, node: u64) -> Numbers {
-        let mut numbers = self.unused(0, node);
+        let mut numbers = self.unused(self.universe.nodes.start, node);
         // Behind an unused number everything can be defined.
         if let Some(first) = numbers.first().map(|range| *range.start())
             && self.formats_of(first).is_empty()
@@ -146,7 +143,7 @@ impl<'a> State<'a> {
         if let Some(&format) = self.owed.get(&node) {
             return vec![format];
         }
-        let free = !self.unused(0, node).is_empty();
+        let free = !self.unused(self.universe.nodes.start, node).is_empty();
         let possible = |format: &Format| free || self.is_suited(*format, node);
         let formats = self.universe.formats.iter().copied();
         formats.filter(possible).collect()
@@ -155,7 +152,7 @@ impl<'a> State<'a> {
     /// Numbers of nodes that can be defined next.
     pub fn definable(&self) -> Numbers {
         let Some((owed, format)) = self.first_owed() else {
-            return self.unused(self.behind_defined, self.universe.nodes);
+            return self.unused(self.behind_defined, self.universe.nodes.end);
         };
         let mut numbers = self.unused(self.behind_defined, owed);
         if self.is_suited(format, owed) {
@@ -164,23 +161,24 @@ impl<'a> State<'a> {
         numbers
     }
 
-    /// Whether a defined node can have a sort. What comes last before a node
-    /// that is owed, and that nothing suits, must suit it.
-    pub fn is_possible(&self, node: u64, sort: Sort) -> bool {
+    /// Sorts that a defined node can have. What comes last before a node that
+    /// is owed, and that nothing suits, must suit it.
+    pub fn sorts(&self, node: u64) -> Vec<Sort> {
         if let Some(&format) = self.owed.get(&node) {
-            return sort == Sort::Float(format);
+            return vec![Sort::Float(format)];
         }
-        let made = match sort {
-            Sort::Bits(width) => self.universe.widths.contains(&width),
-            Sort::Float(format) => {
-                self.universe.formats.contains(&format) && self.is_suited(format, node)
+        let bits = self.universe.widths.iter().map(|&width| Sort::Bits(width));
+        let formats = self.universe.formats.iter().copied();
+        let formats = formats.filter(|&format| self.is_suited(format, node));
+        let made = bits.chain(formats.map(Sort::Float));
+        match self.first_owed() {
+            Some((owed, format))
+                if self.unused(node + 1, owed).is_empty() && !self.is_suited(format, owed) =>
+            {
+                made.filter(|&sort| self.suits(format, sort)).collect()
             }
-        };
-        let Some((owed, format)) = self.first_owed() else {
-            return made;
-        };
-        let last_chance = self.unused(node + 1, owed).is_empty() && !self.is_suited(format, owed);
-        made && (!last_chance || self.suits(format, sort))
+            _ => made.collect(),
+        }
     }
 
     /// The sorts of the nodes below one.

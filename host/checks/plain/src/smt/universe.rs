@@ -1,6 +1,6 @@
 //! What lists the texts are of.
 
-use std::ops::RangeInclusive;
+use std::ops::{Range, RangeInclusive};
 
 use crate::sorts::{Format, WIDEST};
 
@@ -12,8 +12,8 @@ use crate::sorts::{Format, WIDEST};
 /// `BvToFp` and `FpToFp`. So what is left to be defined can always be.
 #[derive(Debug, Clone)]
 pub struct Universe {
-    /// How many nodes a list has at most.
-    pub nodes: u64,
+    /// Numbers of nodes that can be marked.
+    pub nodes: Range<u64>,
     pub kinds: Vec<u64>,
     /// Numbers of inputs, temporaries and slots.
     pub numbers: RangeInclusive<u64>,
@@ -36,7 +36,7 @@ impl Default for Universe {
     /// All that the manual allows.
     fn default() -> Self {
         Self {
-            nodes: 65_535,
+            nodes: 0..65_535,
             kinds: (1..=29).collect(),
             numbers: 0..=u64::MAX,
             flags: vec![0, 1, 2],
