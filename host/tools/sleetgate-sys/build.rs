@@ -16,8 +16,17 @@ const DEFAULT: &str = "../../../target/staticlib/libexport.a";
 /// The program that is asked where the machine is not x86-64.
 const SERVED: &str = "src/served.c";
 
+/// Calls that not every library exports, and what is set where one does not.
+const SOME_EXPORT: [(&str, &str); 3] = [
+    ("x87_lift", "no_lift"),
+    ("x87_smt_write", "no_smt_write"),
+    ("x87_smt_read", "no_smt_read"),
+];
+
 fn main() {
-    println!("cargo::rustc-check-cfg=cfg(no_library, no_lift, emulated)");
+    println!(
+        "cargo::rustc-check-cfg=cfg(no_library, no_lift, no_smt_write, no_smt_read, emulated)"
+    );
     println!("cargo::rerun-if-env-changed={VARIABLE}");
     println!("cargo::rerun-if-changed={SERVED}");
     let path = library();
@@ -33,8 +42,10 @@ fn main() {
     } else {
         println!("cargo::rustc-cfg=no_library");
     }
-    if !defines(&archive, b"x87_lift") {
-        println!("cargo::rustc-cfg=no_lift");
+    for (name, absent) in SOME_EXPORT {
+        if !defines(&archive, name.as_bytes()) {
+            println!("cargo::rustc-cfg={absent}");
+        }
     }
 }
 

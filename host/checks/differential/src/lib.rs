@@ -36,7 +36,11 @@ pub mod solver;
 pub mod steps;
 pub mod stored;
 pub mod stored_formulas;
+pub mod stored_texts;
 pub mod subject;
+pub mod text_reads;
+pub mod text_values;
+pub mod texts;
 #[cfg(not(no_oracle))]
 pub mod trees;
 pub mod values;

@@ -4,22 +4,25 @@ use std::fmt;
 
 use plain::DETAILS;
 
-/// The numbers of answers, from 0 on (the manual, section 7).
-const NUMBERS: [&str; 14] = [
-    "modelled, or a record or the end",
-    "declined, unmodelled form",
-    "declined, overflow",
-    "text",
-    "count, kind or flag",
-    "state",
-    "no room for nodes",
-    "no room for statements",
-    "sort",
-    "value",
-    "slices too short",
-    "wrong mark",
-    "ends early",
-    "input too long",
+/// The numbers of answers (the manual, section 7).
+const NUMBERS: [(u32, &str); 17] = [
+    (0, "done, modelled, or a record or the end"),
+    (1, "declined, unmodelled form"),
+    (2, "declined, overflow"),
+    (3, "text"),
+    (4, "count, kind or flag"),
+    (5, "state"),
+    (6, "no room for nodes"),
+    (7, "no room for statements"),
+    (8, "sort"),
+    (9, "value"),
+    (10, "slices too short"),
+    (11, "wrong mark"),
+    (12, "ends early"),
+    (13, "input too long"),
+    (31, "root not in the list"),
+    (32, "text does not fit"),
+    (41, "no text of the subset"),
 ];
 
 /// The details of a decline, in their order (the manual, section 7).
@@ -37,7 +40,7 @@ pub struct Report {
     /// How many cases were compared.
     pub compared: u64,
     /// How many of them expect each number.
-    pub numbers: [u64; NUMBERS.len()],
+    numbers: [u64; NUMBERS.len()],
     /// How many declines expect each detail.
     pub details: [u64; DETAILS.len()],
     /// Further counts, by name.
@@ -52,7 +55,13 @@ impl Report {
     /// Count a case that expects `number`.
     pub fn count(&mut self, number: u32) {
         self.compared += 1;
-        self.numbers[number as usize] += 1;
+        self.numbers[place(number)] += 1;
+    }
+
+    /// How many cases expect `number`.
+    #[must_use]
+    pub fn expecting(&self, number: u32) -> u64 {
+        self.numbers[place(number)]
     }
 
     /// Count a detail, if it is one.
@@ -87,7 +96,7 @@ impl Report {
 impl fmt::Display for Report {
     fn fmt(&self, f: &mut fmt::Formatter<'_>) -> fmt::Result {
         writeln!(f, "compared {}", self.compared)?;
-        for (number, (count, name)) in self.numbers.iter().zip(NUMBERS).enumerate() {
+        for (count, (number, name)) in self.numbers.iter().zip(NUMBERS) {
             if *count != 0 {
                 writeln!(f, "  expecting {number} ({name}): {count}")?;
             }
@@ -107,6 +116,12 @@ impl fmt::Display for Report {
             None => Ok(()),
         }
     }
+}
+
+/// Where a number stands among all.
+fn place(number: u32) -> usize {
+    let found = NUMBERS.iter().position(|(n, _)| *n == number);
+    found.unwrap_or_else(|| panic!("{number} is no answer"))
 }
 
 /// Bytes in hexadecimal.

@@ -159,7 +159,9 @@ fn sort_text(sort: Sort) -> String {
     }
 }
 
-fn literal(sort: Sort, value: u128) -> String {
+/// A value of a sort; a float's is its pattern.
+#[must_use]
+pub fn literal(sort: Sort, value: u128) -> String {
     let width = usize::try_from(sort.width()).expect("at most 80");
     let digits = format!("{value:0width$b}");
     match sort {
@@ -180,7 +182,9 @@ fn bit(truth: &str) -> String {
     format!("(ite {truth} #b1 #b0)")
 }
 
-fn to_fp(format: Format, bits: &str) -> String {
+/// The float of a pattern.
+#[must_use]
+pub fn to_fp(format: Format, bits: &str) -> String {
     let Format {
         exponent,
         significand,
@@ -189,7 +193,8 @@ fn to_fp(format: Format, bits: &str) -> String {
 }
 
 /// A printed value, a float as its pattern.
-fn read(sort: Sort, text: &Sexpr) -> Option<u128> {
+#[must_use]
+pub fn read(sort: Sort, text: &Sexpr) -> Option<u128> {
     match sort {
         Sort::Bits(width) => bits(text, width),
         Sort::Float(format) => float(text, format),

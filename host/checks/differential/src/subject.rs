@@ -1,5 +1,8 @@
 //! What is compared: the calls on numbers and slices.
 
+use plain::smt::{self, Read};
+use plain::state::{ROW, room};
+use plain::{MODELLED, NO_NODES, NO_TEXT, TOO_SHORT};
 use sleetgate_sys::untested;
 
 /// The calls that read and lift.
@@ -44,6 +47,19 @@ pub trait Formulas {
         column: &mut [u64],
         out: &mut [u64],
     ) -> u32;
+}
+
+/// The calls that write formulas as text and read them.
+pub trait Texts {
+    fn smt_write(
+        &self,
+        nodes: &[u64],
+        count: usize,
+        root: usize,
+        text: &mut [u8],
+        out: &mut [u64],
+    ) -> u32;
+    fn smt_read(&self, text: &[u8], nodes: &mut [u64], out: &mut [u64]) -> u32;
 }
 
 /// The static library itself, on any slices.
@@ -114,5 +130,69 @@ impl Formulas for Library {
         out: &mut [u64],
     ) -> u32 {
         untested::evaluate(nodes, count, given, column, out)
+    }
+}
+
+impl Texts for Library {
+    fn smt_write(
+        &self,
+        nodes: &[u64],
+        count: usize,
+        root: usize,
+        text: &mut [u8],
+        out: &mut [u64],
+    ) -> u32 {
+        untested::smt_write(nodes, count, root, text, out)
+    }
+
+    fn smt_read(&self, text: &[u8], nodes: &mut [u64], out: &mut [u64]) -> u32 {
+        untested::smt_read(text, nodes, out)
+    }
+}
+
+/// The rules of texts said plainly, as calls: what is expected of the
+/// library.
+pub struct Plain;
+
+impl Texts for Plain {
+    fn smt_write(
+        &self,
+        nodes: &[u64],
+        count: usize,
+        root: usize,
+        text: &mut [u8],
+        out: &mut [u64],
+    ) -> u32 {
+        let Some(told) = out.first_mut() else {
+            return TOO_SHORT;
+        };
+        match smt::write(nodes, count, root, text.len()) {
+            Ok(written) => {
+                text[..written.len()].copy_from_slice(written.as_bytes());
+                *told = written.len() as u64;
+                MODELLED
+            }
+            Err(verdict) => {
+                *told = verdict.node;
+                verdict.number
+            }
+        }
+    }
+
+    fn smt_read(&self, text: &[u8], nodes: &mut [u64], out: &mut [u64]) -> u32 {
+        let Some(told) = out.first_mut() else {
+            return TOO_SHORT;
+        };
+        let rooms = usize::try_from(room(nodes.len())).expect("at most 65,535");
+        let (number, word) = match smt::read(text, rooms) {
+            Read::Stop(place) => (NO_TEXT, place),
+            Read::TooFew => (NO_NODES, 0),
+            Read::Rows(rows) => {
+                nodes[..rows.len() * ROW].copy_from_slice(&rows.concat());
+                (MODELLED, rows.len())
+            }
+        };
+        *told = word as u64;
+        number
     }
 }

@@ -175,7 +175,7 @@ fn the_program_lists_as_the_manual_and_the_rust() {
     println!("{report}");
     assert!(report.is_equal(), "{report}");
     for number in [0, 3, 4, 6, 7, 11, 12, 13] {
-        assert!(report.numbers[number] > 20, "{number}: {report}");
+        assert!(report.expecting(number) > 20, "{number}: {report}");
     }
     assert!(report.details.iter().all(|&count| count > 20), "{report}");
 }

@@ -73,10 +73,10 @@ fn stored_values_are_what_z3_says() {
 }
 
 /// Equal, and each of these answers is among the stored ones.
-fn equal_with(report: &Report, numbers: &[usize]) {
+fn equal_with(report: &Report, numbers: &[u32]) {
     equal(report);
     for &number in numbers {
-        assert!(report.numbers[number] >= 30, "{report}");
+        assert!(report.expecting(number) >= 30, "{report}");
     }
 }
 

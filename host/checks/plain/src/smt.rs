@@ -18,5 +18,5 @@ mod text;
 mod universe;
 
 pub use reader::{Read, numbered, read};
-pub use text::{arity, is_declared, needed, text, write};
+pub use text::{arity, compact, is_declared, marked, name, needed, text, write};
 pub use universe::Universe;

@@ -32,6 +32,8 @@ enum Call {
     ImageWrite,
     Check,
     Evaluate,
+    SmtWrite,
+    SmtRead,
 }
 
 /// A slice that is lent; those that are only read stand first in a call.
@@ -200,4 +202,28 @@ pub fn evaluate(
     let [column, out] = [column, out].map(WrittenWords);
     let lent = &mut [Words(nodes), Words(given), column, out];
     ask(Call::Evaluate, [count as u64, 0], lent)
+}
+
+/// As [`crate::smt_write`], on any lengths.
+pub fn smt_write(
+    nodes: &[u64],
+    count: usize,
+    root: usize,
+    text: &mut [u8],
+    out: &mut [u64],
+) -> u32 {
+    if cfg!(no_smt_write) {
+        panic!("{}", crate::MISSING_SMT_WRITE);
+    }
+    let lent = &mut [Words(nodes), WrittenBytes(text), WrittenWords(out)];
+    ask(Call::SmtWrite, [count as u64, root as u64], lent)
+}
+
+/// As [`crate::smt_read`], on any lengths.
+pub fn smt_read(text: &[u8], nodes: &mut [u64], out: &mut [u64]) -> u32 {
+    if cfg!(no_smt_read) {
+        panic!("{}", crate::MISSING_SMT_READ);
+    }
+    let [nodes, out] = [nodes, out].map(WrittenWords);
+    ask(Call::SmtRead, [0; 2], &mut [Bytes(text), nodes, out])
 }

@@ -29,6 +29,9 @@ pub const IMAGE: usize = 10;
 pub const VALUE: usize = 2;
 /// Words that name a node.
 pub const NAMED: usize = 1;
+/// Words that tell how long a text is, how many nodes were read, or a node
+/// or a place that a refusal names.
+pub const TOLD: usize = 1;
 
 /// The answer where a lent slice is too short.
 pub const TOO_SHORT: u32 = 10;
@@ -51,6 +54,18 @@ pub fn has_lift() -> bool {
     cfg!(not(any(no_library, no_lift)))
 }
 
+/// Whether the library exports the writer of SMT-LIB text.
+#[must_use]
+pub fn has_smt_write() -> bool {
+    cfg!(not(any(no_library, no_smt_write)))
+}
+
+/// Whether the library exports the reader of SMT-LIB text.
+#[must_use]
+pub fn has_smt_read() -> bool {
+    cfg!(not(any(no_library, no_smt_read)))
+}
+
 /// What is said where the library is not there.
 #[cfg(target_arch = "x86_64")]
 pub const MISSING: &str = "the static library of the proved crates was not there when this was \
@@ -65,6 +80,12 @@ pub const MISSING: &str = "the static library of the proved crates, or what runs
 
 /// What is said where the library has no lifter.
 pub const MISSING_LIFT: &str = "the static library does not export x87_lift";
+
+/// What is said where the library writes no SMT-LIB text.
+pub const MISSING_SMT_WRITE: &str = "the static library does not export x87_smt_write";
+
+/// What is said where the library reads no SMT-LIB text.
+pub const MISSING_SMT_READ: &str = "the static library does not export x87_smt_read";
 
 /// 10, and zeros for the words that are told, where they have room.
 fn too_short(out: &mut [u64], told: usize) -> u32 {
@@ -189,6 +210,32 @@ pub fn evaluate(
         return TOO_SHORT;
     }
     untested::evaluate(nodes, count, given, column, out)
+}
+
+/// Write what a node of the first `count` needs as SMT-LIB text. The first
+/// bytes of `text` become it, and the first word of `out` becomes how many
+/// they are; beside a refusal it becomes the node without a sort, or 0.
+pub fn smt_write(
+    nodes: &[u64],
+    count: usize,
+    root: usize,
+    text: &mut [u8],
+    out: &mut [u64],
+) -> u32 {
+    if out.len() < TOLD {
+        return TOO_SHORT;
+    }
+    untested::smt_write(nodes, count, root, text, out)
+}
+
+/// Read SMT-LIB text. The first rows of `nodes` become its nodes, and the
+/// first word of `out` becomes how many they are; beside a refusal it becomes
+/// the place from which on it is no such text, or 0.
+pub fn smt_read(text: &[u8], nodes: &mut [u64], out: &mut [u64]) -> u32 {
+    if out.len() < TOLD {
+        return TOO_SHORT;
+    }
+    untested::smt_read(text, nodes, out)
 }
 
 #[cfg(not(any(no_library, emulated)))]

@@ -75,6 +75,28 @@ unsafe extern "C" {
         out: *mut u64,
         out_len: usize,
     ) -> u32;
+
+    #[cfg(not(no_smt_write))]
+    fn x87_smt_write(
+        nodes: *const u64,
+        nodes_len: usize,
+        count: usize,
+        root: usize,
+        text: *mut u8,
+        text_len: usize,
+        out: *mut u64,
+        out_len: usize,
+    ) -> u32;
+
+    #[cfg(not(no_smt_read))]
+    fn x87_smt_read(
+        text: *const u8,
+        text_len: usize,
+        nodes: *mut u64,
+        nodes_len: usize,
+        out: *mut u64,
+        out_len: usize,
+    ) -> u32;
 }
 
 /// As [`crate::classify`], on any lengths.
@@ -228,4 +250,56 @@ pub fn evaluate(
             out.len(),
         )
     }
+}
+
+/// As [`crate::smt_write`], on any lengths.
+#[cfg(not(no_smt_write))]
+pub fn smt_write(
+    nodes: &[u64],
+    count: usize,
+    root: usize,
+    text: &mut [u8],
+    out: &mut [u64],
+) -> u32 {
+    // SAFETY: as in `classify`.
+    unsafe {
+        x87_smt_write(
+            nodes.as_ptr(),
+            nodes.len(),
+            count,
+            root,
+            text.as_mut_ptr(),
+            text.len(),
+            out.as_mut_ptr(),
+            out.len(),
+        )
+    }
+}
+
+/// As [`crate::smt_write`], where the library has no writer.
+#[cfg(no_smt_write)]
+pub fn smt_write(_: &[u64], _: usize, _: usize, _: &mut [u8], _: &mut [u64]) -> u32 {
+    panic!("{}", crate::MISSING_SMT_WRITE)
+}
+
+/// As [`crate::smt_read`], on any lengths.
+#[cfg(not(no_smt_read))]
+pub fn smt_read(text: &[u8], nodes: &mut [u64], out: &mut [u64]) -> u32 {
+    // SAFETY: as in `classify`.
+    unsafe {
+        x87_smt_read(
+            text.as_ptr(),
+            text.len(),
+            nodes.as_mut_ptr(),
+            nodes.len(),
+            out.as_mut_ptr(),
+            out.len(),
+        )
+    }
+}
+
+/// As [`crate::smt_read`], where the library has no reader.
+#[cfg(no_smt_read)]
+pub fn smt_read(_: &[u8], _: &mut [u64], _: &mut [u64]) -> u32 {
+    panic!("{}", crate::MISSING_SMT_READ)
 }

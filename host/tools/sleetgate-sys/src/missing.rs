@@ -49,3 +49,11 @@ pub fn check(_: &[u64], _: usize, _: &mut [u64]) -> u32 {
 pub fn evaluate(_: &[u64], _: usize, _: &[u64], _: &mut [u64], _: &mut [u64]) -> u32 {
     panic!("{MISSING}")
 }
+
+pub fn smt_write(_: &[u64], _: usize, _: usize, _: &mut [u8], _: &mut [u64]) -> u32 {
+    panic!("{MISSING}")
+}
+
+pub fn smt_read(_: &[u8], _: &mut [u64], _: &mut [u64]) -> u32 {
+    panic!("{MISSING}")
+}

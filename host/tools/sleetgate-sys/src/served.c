@@ -27,14 +27,18 @@ extern number x87_check(const word *, word, word, word *, word);
 extern number x87_evaluate(const word *, word, word, const word *, word, word *, word,
                            word *, word);
 
-/* Not in every library; `emulated.rs` does not ask for it then. */
+/* Not in every library; `emulated.rs` does not ask for them then. */
 extern number x87_lift(const byte *, word, word *, word, word *, word, word *, word,
                        word *, word) __attribute__((weak));
+extern number x87_smt_write(const word *, word, word, word, byte *, word, word *, word)
+    __attribute__((weak));
+extern number x87_smt_read(const byte *, word, word *, word, word *, word)
+    __attribute__((weak));
 
 enum { SLICES = 5, WORD = sizeof(word) };
 enum {
     CLASSIFY, WHY, EFFECT, READ_RECORD, LIFT, LIFT_RECORD,
-    IMAGE_READ, IMAGE_WRITE, CHECK, EVALUATE,
+    IMAGE_READ, IMAGE_WRITE, CHECK, EVALUATE, SMT_WRITE, SMT_READ,
 };
 
 struct request {
@@ -59,6 +63,8 @@ static number called(const struct request *asked, byte *const *slices) {
     case IMAGE_WRITE: return x87_image_write(BYTES(0), first, second);
     case CHECK: return x87_check(WORDS(0), first, WORDS(1));
     case EVALUATE: return x87_evaluate(WORDS(0), first, WORDS(1), WORDS(2), WORDS(3));
+    case SMT_WRITE: return x87_smt_write(WORDS(0), first, second, BYTES(1), WORDS(2));
+    case SMT_READ: return x87_smt_read(BYTES(0), WORDS(1), WORDS(2));
     }
     exit(1);
 }

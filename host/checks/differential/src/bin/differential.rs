@@ -1,9 +1,10 @@
 //! `differential CALL [SIZE] [SEED]`: compare the static library with the
-//! Rust; for `records` and `checks` with their rules said plainly, for
-//! `record-lifts` with the two calls that it stands for, for `z3` and
-//! `cvc5` with that solver, for `images` with the processor. `x87lift` is
-//! the program, compared with the plain reader and the Rust. Ends with
-//! status 1 where anything differs.
+//! Rust; for `records`, `checks`, `texts` and `text-reads` with their rules
+//! said plainly, for `record-lifts` with the two calls that it stands for,
+//! for `z3` and `cvc5` with that solver, for `images` with the processor;
+//! for `text-z3` and `text-cvc5` the texts of formulas with their values, by
+//! that solver. `x87lift` is the program, compared with the plain reader and
+//! the Rust. Ends with status 1 where anything differs.
 
 use std::env;
 use std::process::ExitCode;
@@ -11,15 +12,15 @@ use std::time::Instant;
 
 use differential::report::Report;
 use differential::solver::Solver;
-use differential::subject::Library;
+use differential::subject::{Library, Plain, Texts};
 use differential::{
     NO_ORACLE, checks, classify, images, lift, listings, oracle, processor, record_lifts, records,
-    values,
+    text_reads, text_values, texts, values,
 };
 use program::Program;
 
-const USAGE: &str =
-    "differential classify|records|lift|record-lifts|checks|z3|cvc5|images|x87lift [SIZE] [SEED]";
+const USAGE: &str = "differential classify|records|lift|record-lifts|checks|z3|cvc5|images|texts|\
+                     text-reads|text-z3|text-cvc5|x87lift [SIZE] [SEED]";
 
 /// Sizes of the full runs.
 const CLASSIFY: u64 = 3_500_000;
@@ -29,6 +30,9 @@ const RECORD_LIFTS: u64 = 1_500_000;
 const CHECKS: u64 = 2_000_000;
 const LISTS: u64 = 40_000;
 const IMAGES: u64 = 5_000_000;
+const TEXTS: u64 = 200_000;
+const TEXT_READS: u64 = 1_000_000;
+const TEXT_VALUES: u64 = 4_000;
 const LISTINGS: u64 = 25_000;
 
 fn main() -> ExitCode {
@@ -43,36 +47,11 @@ fn main() -> ExitCode {
     }
     let seed = seed.unwrap_or(1);
     let start = Instant::now();
-    let report = match call.as_str() {
-        "classify" => with_oracle(|| classify::run(&Library, size.unwrap_or(CLASSIFY), seed)),
-        "records" => Some(records::run(&Library, size.unwrap_or(RECORDS), seed)),
-        "lift" if !sleetgate_sys::has_lift() => return failure(sleetgate_sys::MISSING_LIFT),
-        "lift" => with_oracle(|| lift::run(&Library, size.unwrap_or(SEQUENCES), seed)),
-        "record-lifts" => Some(record_lifts::run(
-            &Library,
-            size.unwrap_or(RECORD_LIFTS),
-            seed,
-        )),
-        "checks" => Some(checks::run(&Library, size.unwrap_or(CHECKS), seed)),
-        "images" => {
-            processor::tell_emulated();
-            Some(images::run(&Library, size.unwrap_or(IMAGES), seed))
-        }
-        "x87lift" => {
-            let Some(program) = Program::at_hand() else {
-                return failure(program::MISSING);
-            };
-            let size = size.unwrap_or(LISTINGS);
-            with_oracle(|| {
-                listings::run(&program, size, seed).unwrap_or_else(|e| panic!("x87lift: {e}"))
-            })
-        }
-        "z3" => with_solver(Solver::Z3, size, seed),
-        "cvc5" => with_solver(Solver::Cvc5, size, seed),
-        _ => return usage(),
-    };
-    let Some(report) = report else {
-        return ExitCode::SUCCESS;
+    let report = match compared(call, size, seed) {
+        Ok(Some(report)) => report,
+        Ok(None) => return ExitCode::SUCCESS,
+        Err(Some(why)) => return failure(why),
+        Err(None) => return usage(),
     };
     println!("{call}, seed {seed}: {report}");
     println!("{:.1} s", start.elapsed().as_secs_f64());
@@ -81,6 +60,48 @@ fn main() -> ExitCode {
     } else {
         ExitCode::FAILURE
     }
+}
+
+/// The report of a call, or none where what it needs is not at hand and a
+/// line says so. An error is what is missing, or nothing where there is no
+/// such call.
+fn compared(
+    call: &str,
+    size: Option<u64>,
+    seed: u64,
+) -> Result<Option<Report>, Option<&'static str>> {
+    let or = |full: u64| size.unwrap_or(full);
+    let lift = sleetgate_sys::has_lift();
+    let (writes, reads) = (
+        sleetgate_sys::has_smt_write(),
+        sleetgate_sys::has_smt_read(),
+    );
+    Ok(match call {
+        "classify" => with_oracle(|| classify::run(&Library, or(CLASSIFY), seed)),
+        "records" => Some(records::run(&Library, or(RECORDS), seed)),
+        "lift" if !lift => return Err(Some(sleetgate_sys::MISSING_LIFT)),
+        "lift" => with_oracle(|| lift::run(&Library, or(SEQUENCES), seed)),
+        "record-lifts" => Some(record_lifts::run(&Library, or(RECORD_LIFTS), seed)),
+        "checks" => Some(checks::run(&Library, or(CHECKS), seed)),
+        "images" => {
+            processor::tell_emulated();
+            Some(images::run(&Library, or(IMAGES), seed))
+        }
+        "x87lift" => {
+            let program = Program::at_hand().ok_or(Some(program::MISSING))?;
+            let run = || listings::run(&program, or(LISTINGS), seed);
+            with_oracle(|| run().unwrap_or_else(|e| panic!("x87lift: {e}")))
+        }
+        "texts" if !writes => return Err(Some(sleetgate_sys::MISSING_SMT_WRITE)),
+        "text-reads" if !reads => return Err(Some(sleetgate_sys::MISSING_SMT_READ)),
+        "texts" => Some(texts::run(&Library, or(TEXTS), seed)),
+        "text-reads" => Some(text_reads::run(&Library, or(TEXT_READS), seed)),
+        "text-z3" => with_texts(Solver::Z3, or(TEXT_VALUES), seed),
+        "text-cvc5" => with_texts(Solver::Cvc5, or(TEXT_VALUES), seed),
+        "z3" => with_solver(Solver::Z3, or(LISTS), seed),
+        "cvc5" => with_solver(Solver::Cvc5, or(LISTS), seed),
+        _ => return Err(None),
+    })
 }
 
 fn failure(why: &str) -> ExitCode {
@@ -99,12 +120,32 @@ fn with_oracle(run: impl FnOnce() -> Report) -> Option<Report> {
 
 /// The values by a solver: where it cannot be run, only a line that says
 /// so.
-fn with_solver(solver: Solver, size: Option<u64>, seed: u64) -> Option<Report> {
+fn with_solver(solver: Solver, size: u64, seed: u64) -> Option<Report> {
     if !solver.at_hand() {
         println!("{}", solver.missing());
         return None;
     }
-    let report = values::run(&Library, solver, size.unwrap_or(LISTS), seed);
+    let report = values::run(&Library, solver, size, seed);
+    Some(report.unwrap_or_else(|e| panic!("{}: {e}", solver.name())))
+}
+
+/// The values of texts by a solver. Where the library writes no texts, those
+/// are put to it that are said plainly.
+fn with_texts(solver: Solver, size: u64, seed: u64) -> Option<Report> {
+    if !solver.at_hand() {
+        println!("{}", solver.missing());
+        return None;
+    }
+    let subject: &dyn Texts = if sleetgate_sys::has_smt_write() {
+        &Library
+    } else {
+        println!(
+            "{}: the plain writer's texts are read",
+            sleetgate_sys::MISSING_SMT_WRITE
+        );
+        &Plain
+    };
+    let report = text_values::run(subject, &Library, solver, size, seed);
     Some(report.unwrap_or_else(|e| panic!("{}: {e}", solver.name())))
 }
 

@@ -5,7 +5,7 @@ use std::collections::BTreeMap;
 use super::cursor::{Cursor, Stop, Token};
 use super::lines::{Line, assertion, declaration, definition, first_word};
 use super::subset::State;
-use super::text::arity;
+use super::text::compact;
 use super::universe::Universe;
 use crate::state::ROW;
 
@@ -60,20 +60,6 @@ fn lines(cursor: &mut Cursor, state: &mut State) -> Token<()> {
         last = line;
     }
     Ok(())
-}
-
-/// The rows with each operand as its place among them.
-fn compact(nodes: &BTreeMap<u64, [u64; ROW]>) -> Vec<[u64; ROW]> {
-    let places = nodes.keys().zip(0..);
-    let places: BTreeMap<u64, u64> = places.map(|(&node, place)| (node, place)).collect();
-    let mut rows: Vec<[u64; ROW]> = nodes.values().copied().collect();
-    for row in &mut rows {
-        let operands = arity(row[0]);
-        for operand in &mut row[1..=operands] {
-            *operand = places[operand];
-        }
-    }
-    rows
 }
 
 #[cfg(test)]

@@ -1,5 +1,7 @@
 //! How nodes are written.
 
+use std::collections::BTreeMap;
+
 use crate::sorts::{Format, Sort, Verdict, sorts};
 use crate::state::ROW;
 use crate::{NO_ROOT, TEXT_TOO_LONG};
@@ -73,7 +75,32 @@ pub fn text(rows: &[[u64; ROW]], sorts: &[Sort], marks: &[bool]) -> String {
     lines.collect()
 }
 
+/// The marked rows by the numbers of their nodes.
+#[must_use]
+pub fn marked(rows: &[[u64; ROW]], marks: &[bool]) -> BTreeMap<u64, [u64; ROW]> {
+    let numbered = (0..).zip(rows).zip(marks);
+    let marked = numbered.filter(|(_, mark)| **mark);
+    marked.map(|((node, row), _)| (node, *row)).collect()
+}
+
+/// Rows by the numbers of their nodes, numbered from 0 on: each operand is
+/// its place among them.
+#[must_use]
+pub fn compact(nodes: &BTreeMap<u64, [u64; ROW]>) -> Vec<[u64; ROW]> {
+    let places = nodes.keys().zip(0..);
+    let places: BTreeMap<u64, u64> = places.map(|(&node, place)| (node, place)).collect();
+    let mut rows: Vec<[u64; ROW]> = nodes.values().copied().collect();
+    for row in &mut rows {
+        let operands = arity(row[0]);
+        for operand in &mut row[1..=operands] {
+            *operand = places[operand];
+        }
+    }
+    rows
+}
+
 /// The name of a node.
+#[must_use]
 pub fn name(node: u64, row: &[u64; ROW]) -> String {
     let [kind, a, ..] = row;
     if is_declared(*kind) {

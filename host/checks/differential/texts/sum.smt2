@@ -1,0 +1,7 @@
+(declare-fun x0_1_0 () (_ BitVec 79))
+(declare-fun x1_1_1 () (_ BitVec 79))
+(declare-fun x5_26_4 () (_ BitVec 79))
+(define-fun n2 () (_ FloatingPoint 15 64) ((_ to_fp 15 64) x1_1_1))
+(define-fun n3 () (_ FloatingPoint 15 64) ((_ to_fp 15 64) x0_1_0))
+(define-fun n4 () (_ FloatingPoint 15 64) (fp.add RNE n2 n3))
+(assert (= ((_ to_fp 15 64) x5_26_4) n4))
