@@ -5,10 +5,16 @@
 
 use std::io;
 
+use differential::checks;
+use differential::formulas::random;
+use differential::instructions::Grid;
 use differential::report::Report;
+use differential::rng::Rng;
 use differential::solver::Solver;
 use differential::subject::{Library, Plain, Texts};
 use differential::{left_out, stored_texts, text_reads, text_values, texts};
+use plain::smt::{self, Read};
+use sleetgate::{Nodes, Refusal, smt_lib};
 use sleetgate_sys::{MISSING_SMT_READ, MISSING_SMT_WRITE, has_smt_read, has_smt_write};
 
 fn equal(report: &Report) {
@@ -54,6 +60,61 @@ fn texts_are_read_by_the_definition_of_the_subset() {
     if reads() {
         equal_with(&text_reads::run(&Library, 40_000, 2), &[0, 6, 10, 41]);
     }
+}
+
+/// The binding's answer, as the number and the word of the call below it.
+fn told<T>(answer: Result<T, Refusal>) -> Result<T, (u32, usize)> {
+    answer.map_err(|refusal| match refusal {
+        Refusal::Sort { node } => (refusal.number(), node),
+        Refusal::Syntax { place } => (refusal.number(), place),
+        _ => (refusal.number(), 0),
+    })
+}
+
+#[test]
+fn the_binding_writes_as_the_manual_says() {
+    if !writes() {
+        return;
+    }
+    let (grid, mut rng) = (Grid::default(), Rng::new(8));
+    for _ in 0..300 {
+        let case = checks::case(&grid, &mut rng);
+        let nodes = Nodes::new(&case.nodes);
+        let root = rng.below(nodes.len() + 2);
+        let plain = smt::write(&case.nodes, nodes.len(), root, usize::MAX);
+        let plain = plain.map_err(|verdict| (verdict.number, verdict.node as usize));
+        assert_eq!(told(smt_lib::write(nodes, root as u64)), plain);
+    }
+}
+
+#[test]
+fn the_binding_reads_by_the_definition_of_the_subset() {
+    if !reads() {
+        return;
+    }
+    let mut rng = Rng::new(8);
+    for _ in 0..300 {
+        let list = random(&mut rng, 12);
+        let mut text = smt::write(&list.nodes, list.len(), 11, usize::MAX).expect("written");
+        if rng.one_in(2) {
+            text.truncate(rng.below(text.len()));
+        }
+        let plain = match smt::read(text.as_bytes(), usize::MAX) {
+            Read::Rows(rows) => Ok(rows),
+            Read::Stop(place) => Err((plain::NO_TEXT, place)),
+            Read::TooFew => unreachable!("there is room"),
+        };
+        let read = smt_lib::read(&text).map(|nodes| nodes.iter().map(|n| n.row()).collect());
+        assert_eq!(told(read), plain);
+    }
+}
+
+#[test]
+fn the_binding_of_texts_tests_lengths_first() {
+    let (mut text, mut nodes) = ([7; 9], [7; 9]);
+    assert_eq!(sleetgate_sys::smt_write(&[], 0, 0, &mut text, &mut []), 10);
+    assert_eq!(sleetgate_sys::smt_read(&[], &mut nodes, &mut []), 10);
+    assert_eq!((text, nodes), ([7; 9], [7; 9]));
 }
 
 #[test]

@@ -22,7 +22,8 @@
 //! - A node has a [`Sort`]: bits of a width, or a float. [`check`] finds
 //!   the first node that has none (section 5); [`evaluate`] gives values,
 //!   and [`image`] reads and writes the ten bytes of an 80-bit float in
-//!   memory (section 6).
+//!   memory (section 6). [`smt_lib`] writes formulas as text for a solver,
+//!   and reads it.
 //! - A [`Refusal`] has a number (section 7).
 //! - [`read_record`] and [`write_record`] are for the bytes that the
 //!   program `x87lift` reads (section 8).
@@ -66,6 +67,7 @@ mod node;
 mod record;
 mod refusal;
 mod rows;
+pub mod smt_lib;
 mod sort;
 mod statement;
 mod why;

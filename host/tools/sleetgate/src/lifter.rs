@@ -7,7 +7,7 @@ use crate::rows::ROW;
 use crate::{Instruction, Nodes, Refusal, RefusedRecord, Statements, Why};
 
 /// The largest room of a list.
-const MOST_ROWS: usize = 65_535;
+pub(crate) const MOST_ROWS: usize = 65_535;
 
 /// The rooms of the program `x87lift`.
 const PROGRAM_NODES: usize = 1_024;

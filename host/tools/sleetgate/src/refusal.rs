@@ -45,10 +45,22 @@ pub enum Refusal {
     EndsEarly,
     /// 13: an input over 16,384 bytes.
     TooLong,
+    /// 31: the root of a formula is not in the list.
+    Root,
+    /// 32: an SMT-LIB text does not fit. [`write`](crate::smt_lib::write)
+    /// lends more then.
+    TextRoom,
+    /// 41: no SMT-LIB text of the kind that [`write`](crate::smt_lib::write)
+    /// makes.
+    Syntax {
+        /// How many of the bytes begin such a text. With the next one they
+        /// do not, or there is none.
+        place: usize,
+    },
 }
 
 impl Refusal {
-    /// Its number, 3 to 13.
+    /// Its number: 3 to 13, 31, 32 or 41.
     #[must_use]
     pub fn number(self) -> u32 {
         match self {
@@ -63,6 +75,9 @@ impl Refusal {
             Self::Mark => 11,
             Self::EndsEarly => 12,
             Self::TooLong => 13,
+            Self::Root => 31,
+            Self::TextRoom => 32,
+            Self::Syntax { .. } => 41,
         }
     }
 
@@ -75,8 +90,8 @@ impl Refusal {
         }
     }
 
-    /// The refusal of a number, with the node beside it; `None` for 0 to
-    /// 2, which are no refusals, and over 13.
+    /// The refusal of a number, with the node or the place beside it;
+    /// `None` for 0 to 2, and for all numbers that are none.
     ///
     /// ```
     /// # use sleetgate::Refusal;
@@ -84,7 +99,8 @@ impl Refusal {
     /// assert_eq!(Refusal::of(2, 0), None);
     /// ```
     #[must_use]
-    pub fn of(number: u32, node: usize) -> Option<Self> {
+    pub fn of(number: u32, named: usize) -> Option<Self> {
+        let (node, place) = (named, named);
         Some(match number {
             3 => Self::Text,
             4 => Self::Shape,
@@ -97,6 +113,9 @@ impl Refusal {
             11 => Self::Mark,
             12 => Self::EndsEarly,
             13 => Self::TooLong,
+            31 => Self::Root,
+            32 => Self::TextRoom,
+            41 => Self::Syntax { place },
             _ => return None,
         })
     }
@@ -104,11 +123,15 @@ impl Refusal {
     /// The refusal that the library answered, if it did.
     ///
     /// # Panics
-    /// Where the number is over 13: the library is proved to give none
-    /// such.
-    pub(crate) fn told(number: u32, node: u64) -> Option<Self> {
-        assert!(number <= 13, "the library answered {number}");
-        Self::of(number, usize::try_from(node).unwrap_or(usize::MAX))
+    /// Where it is no number of an answer: the library is proved to give
+    /// none such.
+    pub(crate) fn told(number: u32, named: u64) -> Option<Self> {
+        let refusal = Self::of(number, usize::try_from(named).unwrap_or(usize::MAX));
+        assert!(
+            refusal.is_some() || number <= 2,
+            "the library answered {number}"
+        );
+        refusal
     }
 
     fn words(self) -> &'static str {
@@ -124,6 +147,9 @@ impl Refusal {
             Self::Mark => "a wrong mark",
             Self::EndsEarly => "the bytes end early",
             Self::TooLong => "an input over 16,384 bytes",
+            Self::Root => "the root is not in the list",
+            Self::TextRoom => "the text does not fit",
+            Self::Syntax { .. } => "not a text of the subset",
         }
     }
 }
@@ -131,9 +157,10 @@ impl Refusal {
 impl fmt::Display for Refusal {
     fn fmt(&self, f: &mut fmt::Formatter<'_>) -> fmt::Result {
         write!(f, "refused ({}): {}", self.number(), self.words())?;
-        match self.node() {
-            Some(node) => write!(f, ", node {node}"),
-            None => Ok(()),
+        match self {
+            Self::Sort { node } | Self::Wide { node } => write!(f, ", node {node}"),
+            Self::Syntax { place } => write!(f, ", at byte {place}"),
+            _ => Ok(()),
         }
     }
 }
