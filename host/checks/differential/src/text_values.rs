@@ -215,36 +215,57 @@ pub fn run(
     let mut report = Report::default();
     for batch in batches(size, seed) {
         let texts = texts(subject, &batch, &mut report);
-        let asking = texts.iter().map(|(case, text)| case.asking(text));
-        let said = solver.answers(asking, LONG)?;
-        let mut right = Vec::new();
-        for ((case, text), said) in texts.into_iter().zip(&said) {
-            match compared(case, evaluator, said) {
-                _ if is_open(said) => report.note("texts that are left open", 1),
-                Ok(values) => {
-                    tally(case, &values, &mut report);
-                    // An integer of a number that does not fit can have any
-                    // value.
-                    if case.rows()[case.root][0] != 27 {
-                        right.push((case, text, values));
-                    }
-                }
-                Err(why) => report.differs(|| say(case, &text, &why)),
-            }
-        }
-        let denying = right
-            .iter()
-            .map(|(case, text, values)| case.denying(text, values));
-        let said = solver.answers(denying, LONG)?;
-        for ((case, text, _), said) in right.iter().zip(&said) {
-            match said.as_str() {
-                "unsat" => report.note("roots that have no other value", 1),
-                _ if is_open(said) => report.note("roots that are left open", 1),
-                _ => report.differs(|| say(case, text, &format!("another value: {said}"))),
-            }
-        }
+        let valued = valued(evaluator, solver, texts, &mut report)?;
+        denied(solver, &valued, &mut report)?;
     }
     Ok(report)
+}
+
+/// A case with its text, and with the values on which a solver and the
+/// evaluator agree.
+type Valued<'a> = (&'a Case, String, Values);
+
+/// The cases whose values are those of a solver.
+fn valued<'a>(
+    evaluator: &impl Formulas,
+    solver: Solver,
+    texts: Vec<(&'a Case, String)>,
+    report: &mut Report,
+) -> io::Result<Vec<Valued<'a>>> {
+    let asking = texts.iter().map(|(case, text)| case.asking(text));
+    let said = solver.answers(asking, LONG)?;
+    let mut valued = Vec::new();
+    for ((case, text), said) in texts.into_iter().zip(&said) {
+        match compared(case, evaluator, said) {
+            _ if is_open(said) => report.note("texts that are left open", 1),
+            Ok(values) => {
+                tally(case, &values, report);
+                valued.push((case, text, values));
+            }
+            Err(why) => report.differs(|| say(case, &text, &why)),
+        }
+    }
+    Ok(valued)
+}
+
+/// No root has another value. One that is an integer is left out: of a number
+/// that does not fit it can have any.
+fn denied(solver: Solver, valued: &[Valued], report: &mut Report) -> io::Result<()> {
+    let integer = |case: &Case| case.rows()[case.root][0] == 27;
+    let settled = valued.iter().filter(|(case, ..)| !integer(case));
+    let settled: Vec<&Valued> = settled.collect();
+    let denying = settled
+        .iter()
+        .map(|(case, text, values)| case.denying(text, values));
+    let said = solver.answers(denying, LONG)?;
+    for ((case, text, _), said) in settled.into_iter().zip(&said) {
+        match said.as_str() {
+            "unsat" => report.note("roots that have no other value", 1),
+            _ if is_open(said) => report.note("roots that are left open", 1),
+            _ => report.differs(|| say(case, text, &format!("another value: {said}"))),
+        }
+    }
+    Ok(())
 }
 
 /// Put `size` texts to a solver as they are: it takes each without a word

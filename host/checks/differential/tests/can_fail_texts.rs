@@ -153,73 +153,62 @@ fn wrong_texts_are_reported() {
     written(exchanged);
 }
 
-/// A writer with this fault beside its text is reported.
-#[track_caller]
-fn misjudged(misjudge: Misjudge) {
-    let subject = Faulty {
-        misjudge: Some(misjudge),
-        ..Faulty::default()
-    };
-    shown(&texts::run_short(&subject, 5_000, 3), "text of root ");
-}
-
-#[test]
-fn wrong_answers_of_the_writer_are_reported() {
+/// Faults beside the text.
+const MISJUDGED: [Misjudge; 6] = [
     // Something is written where the text does not fit.
-    misjudged(|number, text, _| {
-        if number == TEXT_TOO_LONG && !text.is_empty() {
-            text[0] = b'(';
+    |number, text, _| {
+        if let (TEXT_TOO_LONG, Some(first)) = (number, text.first_mut()) {
+            *first = b'(';
         }
         number
-    });
+    },
     // The root is looked at before the sorts.
-    misjudged(|number, _, out| {
+    |number, _, out| {
         if number == NO_SORT {
             out[0] = 0;
             return NO_ROOT;
         }
         number
-    });
+    },
     // A root that is none is told.
-    misjudged(|number, _, out| {
+    |number, _, out| {
         if number == NO_ROOT {
             out[0] = 1;
         }
         number
-    });
-    // Nothing is told beside 10.
-    misjudged(|number, _, out| {
+    },
+    // No zero is told beside 10.
+    |number, _, out| {
         if let (TOO_SHORT, Some(told)) = (number, out.first_mut()) {
             *told = 0xa5a5;
         }
         number
-    });
-    // A byte and a word beyond the answer.
-    misjudged(|number, text, _| {
+    },
+    // A byte beyond the text is written.
+    |number, text, _| {
         if let (MODELLED, Some(last)) = (number, text.last_mut()) {
             *last = 0;
         }
         number
-    });
-    misjudged(|number, _, out| {
+    },
+    // A word beyond the length is written.
+    |number, _, out| {
         if let Some(word) = out.get_mut(1) {
             *word = 0;
         }
         number
-    });
-}
+    },
+];
 
-#[track_caller]
-fn reader(mishear: Option<Mishear>, misread: Option<Misread>) {
-    let subject = Faulty {
-        mishear,
-        misread,
-        ..Faulty::default()
-    };
-    shown(
-        &text_reads::run_short(&subject, 30_000, 3),
-        "reading of a text",
-    );
+#[test]
+fn wrong_answers_of_the_writer_are_reported() {
+    for misjudge in MISJUDGED {
+        let subject = Faulty {
+            misjudge: Some(misjudge),
+            ..Faulty::default()
+        };
+        shown(&texts::run_short(&subject, 5_000, 3), "text of root ");
+    }
 }
 
 /// A leading zero behind an `n` or an `x` is passed over.
@@ -234,51 +223,53 @@ fn without_zero(text: &[u8]) -> Vec<u8> {
     passed.into_bytes()
 }
 
+/// Faults of a reader.
+const MISREAD: [Misread; 4] = [
+    // The place is one further.
+    |number, _, _, out| {
+        if number == NO_TEXT {
+            out[0] += 1;
+        }
+        number
+    },
+    // A text that stops early has the place of its last line.
+    |number, text, _, out| {
+        if number == NO_TEXT && out[0] == text.len() as u64 {
+            let line = text.iter().rposition(|&byte| byte == b'\n');
+            out[0] = line.map_or(0, |at| at as u64 + 1);
+        }
+        number
+    },
+    // Rows are written beside a refusal.
+    |number, _, nodes, _| {
+        if let (NO_TEXT, Some(first)) = (number, nodes.first_mut()) {
+            *first = 1;
+        }
+        number
+    },
+    // The room is looked at before the text.
+    |number, _, nodes, out| {
+        if number == NO_TEXT && nodes.len() < ROW {
+            out[0] = 0;
+            return NO_NODES;
+        }
+        number
+    },
+];
+
 #[test]
 fn wrong_readers_are_reported() {
-    reader(Some(without_zero), None);
-    // The place is one further.
-    reader(
-        None,
-        Some(|number, _, _, out| {
-            if number == NO_TEXT {
-                out[0] += 1;
-            }
-            number
-        }),
-    );
-    // A text that stops early has the place of its last line.
-    reader(
-        None,
-        Some(|number, text, _, out| {
-            if number == NO_TEXT && out[0] == text.len() as u64 {
-                let line = text.iter().rposition(|&byte| byte == b'\n');
-                out[0] = line.map_or(0, |at| at as u64 + 1);
-            }
-            number
-        }),
-    );
-    // Rows are written beside a refusal.
-    reader(
-        None,
-        Some(|number, _, nodes, _| {
-            if number == NO_TEXT && nodes.len() >= ROW {
-                nodes[0] = 1;
-            }
-            number
-        }),
-    );
-    // The room is looked at before the text.
-    reader(
-        None,
-        Some(|number, _, nodes, out| {
-            if number == NO_TEXT && nodes.len() < ROW {
-                out[0] = 0;
-                return NO_NODES;
-            }
-            number
-        }),
-    );
+    let deaf = Faulty {
+        mishear: Some(without_zero),
+        ..Faulty::default()
+    };
+    let misread = MISREAD.map(|misread| Faulty {
+        misread: Some(misread),
+        ..Faulty::default()
+    });
+    for subject in misread.into_iter().chain([deaf]) {
+        shown(&text_reads::run_short(&subject, 30_000, 3), "reading of ");
+    }
 }
 
 #[test]
