@@ -1,7 +1,10 @@
 //! SMT-LIB text that is read, compared with the reader that is written from
 //! the definition of the subset.
 
+use std::collections::BTreeSet;
+
 use plain::smt::{arity, compact, marked, needed, text};
+use plain::sorts::Sort;
 use plain::state::ROW;
 use plain::{MODELLED, NO_TEXT};
 
@@ -18,6 +21,10 @@ const WORDS_BEFORE: [u64; WORDS] = [0xa5a5, 0x5a5a, 0x1111];
 
 /// What a lent word of a list holds.
 const WORD: u64 = 0xa5a5_0000_5a5a_0000;
+
+/// The largest room of a list, and a row of 16 bits.
+const MOST: usize = 65_535;
+const UNMARKED: [u64; ROW] = [4, 0, 0, 0];
 
 /// Nodes of a random list: mostly few, since a text is damaged everywhere.
 const FEW: usize = 12;
@@ -129,7 +136,51 @@ fn good(grid: &Grid, rng: &mut Rng) -> Vec<u8> {
         random(rng, length)
     };
     let marks = kept(&list, rng);
-    text(list.nodes.as_chunks().0, &list.sorts, &marks).into_bytes()
+    let numbers = numbers(list.len(), rng);
+    renumbered(&list, &marks, &numbers).into_bytes()
+}
+
+/// Numbers for so many nodes: from 0 on, with small gaps, anywhere, or up to
+/// the last that there can be.
+fn numbers(length: usize, rng: &mut Rng) -> Vec<usize> {
+    match rng.below(5) {
+        0 => {
+            let mut next = 0;
+            let gaps = (0..length).map(|_| {
+                next += rng.between(1, 4);
+                next - 1
+            });
+            gaps.collect()
+        }
+        1 => {
+            let mut numbers = BTreeSet::new();
+            while numbers.len() < length {
+                numbers.insert(rng.below(MOST));
+            }
+            numbers.into_iter().collect()
+        }
+        2 => (MOST - length..MOST).collect(),
+        _ => (0..length).collect(),
+    }
+}
+
+/// The text of the marked nodes of a list, where the nodes have these
+/// numbers, and others between them are not marked.
+fn renumbered(list: &List, marks: &[bool], numbers: &[usize]) -> String {
+    let length = numbers.last().map_or(0, |last| last + 1);
+    let mut rows = vec![UNMARKED; length];
+    let mut sorts = vec![Sort::Bits(16); length];
+    let mut kept = vec![false; length];
+    let old: &[[u64; ROW]] = list.nodes.as_chunks().0;
+    for (node, &number) in numbers.iter().enumerate() {
+        let mut row = old[node];
+        let operands = arity(row[0]);
+        for operand in &mut row[1..=operands] {
+            *operand = numbers[usize::try_from(*operand).expect("an earlier node")] as u64;
+        }
+        (rows[number], sorts[number], kept[number]) = (row, list.sorts[node], marks[node]);
+    }
+    text(&rows, &sorts, &kept)
 }
 
 /// Marks of one node or of a few, and of all that they need.

@@ -8,6 +8,7 @@ use sleetgate_sys::{MISSING_SMT_READ, MISSING_SMT_WRITE, has_smt_read, has_smt_w
 
 /// Whether a call is there; where it is not, this is said.
 fn at_hand(exported: bool, missing: &str) -> bool {
+    assert!(sleetgate_sys::at_hand(), "{}", sleetgate_sys::MISSING);
     if !exported {
         // A line that cannot be written is no reason to fail.
         let _ = writeln!(std::io::stderr(), "left out: {missing}");

@@ -13,6 +13,7 @@ use sleetgate::{
 
 /// Whether the library writes texts; a line says so where it does not.
 fn writes() -> bool {
+    assert!(sleetgate_sys::at_hand(), "{}", sleetgate_sys::MISSING);
     if !sleetgate_sys::has_smt_write() {
         // A line that cannot be written is no reason to fail.
         let _ = writeln!(
