@@ -12,9 +12,6 @@ ghost use Rattle.smtgrammar.specs.declared.Line.{Line};
 ghost use Rattle.smtsound.specs.Lines.{line};
 ghost use Rattle.smtchoices.specs.Seen.{seen, none, noPlace};
 ghost use Rattle.smtreader.specs.Inside.{tablesOf, stateOf, Rowed, Bounded, Ends, Terms, Declares, Digits, Fits};
-use smtchoices::format_of;
-use smtchoices::kind_at;
-use smtchoices::sort_at;
 use smtgrammar::Line;
 use smtgrammar::Place;
 
@@ -44,7 +41,7 @@ fn gap_from(kinds: &[u8], i: usize) -> usize
 {
     let mut j = i;
     while j < 65535 {
-        if kind_at(kinds, j) == 0 {
+        if smtchoices::kind_at(kinds, j) == 0 {
             return j;
         }
         j += 1;
@@ -58,7 +55,7 @@ fn owed_from(kinds: &[u8], sorts: &[u16], top: usize, i: usize) -> usize
 {
     let mut j = i;
     while j < top {
-        if (kind_at(kinds, j) == 0) & !(sort_at(sorts, j) == 0) {
+        if (smtchoices::kind_at(kinds, j) == 0) & !(smtchoices::sort_at(sorts, j) == 0) {
             return j;
         }
         j += 1;
@@ -72,7 +69,7 @@ fn due_from(kinds: &[u8], top: usize, i: usize) -> usize
 {
     let mut j = i;
     while j < top {
-        if kind_at(kinds, j) == 26 {
+        if smtchoices::kind_at(kinds, j) == 26 {
             return j;
         }
         j += 1;
@@ -258,7 +255,7 @@ fn declared(
     requires { ⌜ Declares (tablesOf (now kinds) (now fa) (now fb) (now fc) (now sorts) (now lowest)) p l w ⌝ }
     ensures { λ r. ⌜ stateOf (tablesOf (now (kinds .exit)) (now (fa .exit)) (now (fb .exit)) (now (fc .exit)) (now (sorts .exit)) (now (lowest .exit))) r ≡ declared (tablesOf (now (kinds .entry)) (now (fa .entry)) (now (fb .entry)) (now (fc .entry)) (now (sorts .entry)) (now (lowest .entry))) p l w ⌝ }
 {
-    let f = format_of(w);
+    let f = smtchoices::format_of(w);
     let b = pick(l.kind <= 3, w, 0);
     obliged(sorts, l.kind == 26, l.a, f);
     entered(
@@ -410,7 +407,7 @@ fn kind_of(sorts: &[u16], l: Line, a: usize) -> usize
     requires { ⌜ l .kind < 256 ⌝ }
     ensures { λ r. ⌜ Bounded 256 (kindOf (seen [] (now (sorts .entry)) []) noPlace l a) r ⌝ }
 {
-    if (l.kind == 28) & sorts::is_float(sort_at(sorts, a) as u64) {
+    if (l.kind == 28) & sorts::is_float(smtchoices::sort_at(sorts, a) as u64) {
         29
     } else {
         l.kind

@@ -10,14 +10,16 @@ ghost use Rattle.smtgrammar.specs.Rows.{there};
 ghost use Rattle.smtchoices.specs.Seen.{seen};
 ghost use Rattle.smtreader.specs.Inside.{tablesOf, Bounded};
 ghost use Rattle.smtreader.specs.Ranks.{Ranks, rowOf, Added, Fit, Written};
-use smtchoices::kind_at;
-use smtchoices::sort_at;
 
 // 1 where node i is there.
 fn there(kinds: &[u8], i: usize) -> usize
     ensures { λ r. ⌜ Bounded 2 (cond (there (seen (now (kinds .entry)) [] []) i) 1 0) r ⌝ }
 {
-    if kind_at(kinds, i) == 0 { 0 } else { 1 }
+    if smtchoices::kind_at(kinds, i) == 0 {
+        0
+    } else {
+        1
+    }
 }
 
 // How many nodes below each number are there.
@@ -39,7 +41,7 @@ fn ranked(ranks: &[u16], arity: u64, j: u64, v: u64) -> u64
     ensures { λ r. ⌜ r ≡ cond (leb j arity) (getD (now (ranks .entry)) v 0) v ⌝ }
 {
     if j <= arity {
-        sort_at(ranks, v as usize) as u64
+        smtchoices::sort_at(ranks, v as usize) as u64
     } else {
         v
     }
@@ -77,11 +79,11 @@ fn row(
     requires { ⌜ at + 4 ≤ length (now nodes) ⌝ }
     ensures { λ r. ⌜ now (nodes .exit) ≡ sets (now (nodes .entry)) at (rowOf (now (kinds .entry)) (now (fa .entry)) (now (fb .entry)) (now (fc .entry)) (now (ranks .entry)) i) ⌝ }
 {
-    let k = kind_at(kinds, i) as u64;
+    let k = smtchoices::kind_at(kinds, i) as u64;
     let n = needs::arity(k);
     let a = ranked(ranks, n, 1, first_at(fa, i));
-    let b = ranked(ranks, n, 2, sort_at(fb, i) as u64);
-    let c = ranked(ranks, n, 3, sort_at(fc, i) as u64);
+    let b = ranked(ranks, n, 2, smtchoices::sort_at(fb, i) as u64);
+    let c = ranked(ranks, n, 3, smtchoices::sort_at(fc, i) as u64);
     put(nodes, at, k, a, b, c);
 }
 
@@ -99,7 +101,7 @@ fn add(
     requires { ⌜ at + 4 * cond (there (seen (now kinds) [] []) i) 1 0 ≤ length (now nodes) ⌝ }
     ensures { λ r. ⌜ Added (cond (there (seen (now (kinds .entry)) [] []) i) 1 0) (now (nodes .entry)) (now (nodes .exit)) (cond (there (seen (now (kinds .entry)) [] []) i) (rowOf (now (kinds .entry)) (now (fa .entry)) (now (fb .entry)) (now (fc .entry)) (now (ranks .entry)) i) []) at r ⌝ }
 {
-    if kind_at(kinds, i) == 0 {
+    if smtchoices::kind_at(kinds, i) == 0 {
         return at;
     }
     row(nodes, kinds, fa, fb, fc, ranks, at, i);
