@@ -32,7 +32,7 @@ over-eqb m n h = ne-eqb m n (λ e. omega arith)
 -- what the ends of a line need
 module _ (t : Tables) (p : Place) (l : Line) (v : ℕ) (f : Fits t p l v) where
   row-of : (k b c s : ℕ) → k < 256 → b < 65536 → c < 65536 → s < 3905 → Rowed t (l .node) k b c s
-  row-of k b c s hk hb hc hs = record { long = f .long; node = f .node; kind = hk; second = hb; third = hc; sort = hs }
+  row-of k b c s hk hb hc hs = record { room = f .room; node = f .node; kind = hk; second = hb; third = hc; sort = hs }
 
   pub terms-of : (b c : ℕ) → b < 65536 → c < 65536 → Terms t p l b c
   terms-of b c hb hc = record { ends = record { row = row-of (l .kind) b c (l .sort) (f .kind) hb hc (f .sort); count = f .count }; rounding = f .rounding }

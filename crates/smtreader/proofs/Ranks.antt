@@ -1,11 +1,12 @@
 -- How many nodes are there below a number, and how long their rows are.
-use mathlib.Core.Path.{_≡_, refl, _∙_}
+use mathlib.Core.Path.{_≡_, refl, sym, _∙_}
 use mathlib.Core.Bool.{Bool, true, false, cond}
 use mathlib.Core.List.{List, [], _∷_, _++_}
-use Prim.Native.Nat.{ℕ, zero, suc, _+_, _*_, _≤_, _<_}
+use Prim.Native.Nat.{ℕ, zero, suc, _+_, _*_, _/_, _≤_, _<_, min}
 use native.Mathlib.Numerals.{add-one}
 use native.Mathlib.Omega.{arith}
-use lib.ListN.{length, getD, set, length-append}
+use native.Mathlib.Decide.{decLt}
+use lib.ListN.{length, getD, set, length-append, List·getD-eq-default}
 use lib.Seq.{sets, length-sets, getD-set-same, getD-set-other}
 use Rattle.smtgrammar.specs.State.{Tables}
 use borrow.Author.Tests.{leb-true}
@@ -14,10 +15,11 @@ use Rattle.lists.proofs.Runs.{sets-append}
 use Rattle.viable.specs.Grammar.{clash}
 use Rattle.needs.specs.Needed.{arity}
 use Rattle.smtchoices.specs.Seen.{seen}
-use Rattle.smtreader.specs.Ranks.{Ranks, byRank, rowOf, Added, Fit}
+use Rattle.smtreader.specs.Ranks.{Ranks, byRank, rowOf, Added, Fit, Written}
 use Rattle.smtgrammar.specs.Rows.{there, rankAt, ranked, rowsBelow}
 use Rattle.smtreader.specs.Inside.{tablesOf}
-use Rattle.smtsound.specs.Nodes.{Nodes}
+use Rattle.smtreader.specs.Padded.{pad, padded, get-pad, rank-past, rows-past}
+use Rattle.smtsound.specs.Nodes.{Node, Nodes}
 use Rattle.smtsound.specs.Tables.{Is, same?}
 
 one-most : (b : Bool) → cond b 1 0 ≤ 1
@@ -67,8 +69,8 @@ unfolding rankAt
 rank-same t u e zero = refl
 rank-same t u e (suc n) = rw (rank-same t u e n, e)
 
-module _ (t : Tables) (ranks : List ℕ) (long : ℕ) (r : Ranks (seen (t .kinds) [] []) ranks) (f : Fit t long) where
-  field-is : (j n v : ℕ) → (j ≤ n → v < 65536) → byRank ranks n j v ≡ cond (leb j n) (rankAt t v) v
+module _ (t : Tables) (ranks : List ℕ) (long : ℕ) (r : Ranks (seen (t .kinds) [] []) ranks) (f : Fit t (length ranks) long) where
+  field-is : (j n v : ℕ) → (j ≤ n → v < length ranks) → byRank ranks n j v ≡ cond (leb j n) (rankAt t v) v
   field-is j n v h = go (leb j n) refl
     where
       go : (b : Bool) → leb j n ≡ b → cond b (getD ranks v 0) v ≡ cond b (rankAt t v) v
@@ -102,13 +104,36 @@ module _ (t : Tables) (ranks : List ℕ) (long : ℕ) (r : Ranks (seen (t .kinds
       (a .words ∙ (rw (rows-next i, sets-append l₀ (rowsBelow t i) x 0, z, e)), (rw (rank-next t i) (let y = a .behind in omega arith)))
 
 -- the next row has room
-pub room-on : (t : Tables) (l₀ l : List ℕ) (i at : ℕ) → Fit t (length l₀) → i < 65535 → l ≡ sets l₀ 0 (rowsBelow t i) → at ≡ 4 * rankAt t i
+pub room-on : (t : Tables) (l₀ l : List ℕ) (i at m : ℕ) → Fit t m (length l₀) → i < 65535 → l ≡ sets l₀ 0 (rowsBelow t i) → at ≡ 4 * rankAt t i
     → at + 4 * cond (there t i) 1 0 ≤ length l
-room-on t l₀ l i at f h e g =
+room-on t l₀ l i at m f h e g =
     let x = rank-next t i in
     let y = rank-up t (i + 1) 65535 (omega arith) in
     let z = f .room in
     rw (e, length-sets l₀ 0 (rowsBelow t i)) (omega arith)
+
+-- the rows of the numbers that have an entry are all rows
+up-to : {A : Type 0} (f : ℕ → A) (n i : ℕ) → i ≡ min n 65535 → (n ≤ i → i ≤ 65535 → f 65535 ≡ f i) → f 65535 ≡ f i
+up-to f n i e past = go (decLt n 65535)
+  where
+    go : Dec (n < 65535) → f 65535 ≡ f i
+    go (yes h) = past (omega arith) (omega arith)
+    go (no h) = let z : i ≡ 65535 = omega arith in rw z
+
+pub written : (t : Tables) (l l′ : List ℕ) (i at : ℕ) → i ≡ min (length (t .kinds)) 65535 → l′ ≡ sets l 0 (rowsBelow t i) → at ≡ 4 * rankAt t i
+    → Written t l l′ (at / 4)
+written t l l′ i at e f g =
+    let n = length (t .kinds) in
+    let k = up-to (rankAt t) n i e (λ h. rank-past t i h 65535) in
+    record { words = rw (up-to (rowsBelow t) n i e (λ h. rows-past t i h 65535)) f; count = omega arith }
+
+-- what is not 0 is an entry
+has-entry : (l : List ℕ) (i : ℕ) → (getD l i 0 ≡ 0 → ⊥) → i < length l
+has-entry l i h = go (decLt i (length l))
+  where
+    go : Dec (i < length l) → i < length l
+    go (yes k) = k
+    go (no k) = absurd (let z : length l ≤ i = omega arith in h (List·getD-eq-default l 0 z))
 
 -- the columns that the rows are made of
 abbrev pub bare : Tables → Tables
@@ -121,11 +146,21 @@ rows-same t (suc n) =
     let e = rank-same (bare t) t refl in
     rw (rows-same t n, e (getD (t .fieldA) n 0), e (getD (t .fieldB) n 0), e (getD (t .fieldC) n 0))
 
--- tables of a sound state fit where there is room
-pub fit-of : (t : Tables) (part top owed long : ℕ) → Nodes t part top owed → 4 * rankAt t 65535 ≤ long → Fit (bare t) long
-fit-of t part top owed long h r = record {
-  room = rw (rank-same (bare t) t refl 65535) r;
-  one = λ i is k. let n = h .nodes i is in let b = n .row .one k .below in let j = n .inside in omega arith;
-  two = λ i is k. let n = h .nodes i is in let b = n .row .two k .below in let j = n .inside in omega arith;
-  three = λ i is k. let n = h .nodes i is in let b = n .row .three k .below in let j = n .inside in omega arith;
-}
+-- columns that stand for the tables of a sound state fit where there is room
+module _ (t : Tables) {part top owed : ℕ} (h : Nodes (padded t) part top owed) where
+  node : (i : ℕ) → Is t i → Node (padded t) i
+  node i is = h .nodes i (λ z. is (sym (get-pad (t .kinds) i) ∙ z))
+
+  some : (i k : ℕ) → k ≤ arity (getD (t .kinds) i 0) → k ≤ arity (getD (pad (t .kinds)) i 0)
+  some i k a = rw (get-pad (t .kinds) i) a
+
+  low : (l : List ℕ) (i : ℕ) → Is t i → getD (pad l) i 0 < i → getD l i 0 < length (t .kinds)
+  low l i is b = let e = get-pad l i in let j = has-entry (t .kinds) i is in omega arith
+
+  pub fit-of : (long : ℕ) → 4 * rankAt t 65535 ≤ long → Fit (bare t) (length (t .kinds)) long
+  fit-of long r = record {
+    room = rw (rank-same (bare t) t refl 65535) r;
+    one = λ i is k. low (t .fieldA) i is (node i is .row .one (some i 1 k) .below);
+    two = λ i is k. low (t .fieldB) i is (node i is .row .two (some i 2 k) .below);
+    three = λ i is k. low (t .fieldC) i is (node i is .row .three (some i 3 k) .below);
+  }

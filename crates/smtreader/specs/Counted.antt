@@ -188,7 +188,7 @@ unfolding rankAt
 blank t zero f = refl
 blank t (suc n) f = rw (blank t n f, there-not t n (f n))
 
-zeros : (n i : ℕ) → getD {A = ℕ} (replicate n 0) i 0 ≡ 0
+pub zeros : (n i : ℕ) → getD {A = ℕ} (replicate n 0) i 0 ≡ 0
 zeros zero i = refl
 zeros (suc n) zero = refl
 zeros (suc n) (suc i) = zeros n i

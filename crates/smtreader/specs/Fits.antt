@@ -14,10 +14,9 @@ use Rattle.smtgrammar.specs.declared.Line.{Line}
 use Rattle.smtgrammar.specs.State.{Tables, State}
 use Rattle.smtgrammar.specs.Allowed.{okAt, digitOk}
 use Rattle.smtgrammar.specs.Grammar.{sizeAt}
-use Rattle.smtsound.specs.Tables.{Long}
 use Rattle.smtsound.specs.Lines.{Late, Numbered, Worded, Kinded, Paired, Suits, Lined, at0, at1, at2, at3, at4, at5, at6, at7, at8, at9, at10, at11, at12, at13, at14, at15, Sound}
 use Rattle.smtlive.specs.At.{at-4}
-use Rattle.smtreader.specs.Inside.{Fits}
+use Rattle.smtreader.specs.Inside.{Roomed, Fits}
 
 -- the kinds are few
 late-few : (k : ℕ) → Late k → k < 256
@@ -31,11 +30,12 @@ numbered-few t n k a Numbered.fsw = omega arith
 numbered-few t n k a (Numbered.flag h) = omega arith
 numbered-few t n k a (Numbered.reads h e) = omega arith
 
-numbered-low : (t : Tables) (n k a : ℕ) → n < 65535 → Numbered t n k a → k ≡ 26 → a < 65536
-numbered-low t n k a i (Numbered.named lo hi h) e = absurd (omega arith)
-numbered-low t n k a i Numbered.fsw e = omega arith
-numbered-low t n k a i (Numbered.flag h) e = omega arith
-numbered-low t n k a i (Numbered.reads h z) e = omega arith
+-- an FpToIeeeBv reads a number below its own
+pub numbered-low : {t : Tables} {n k a : ℕ} → Numbered t n k a → k ≡ 26 → a < n
+numbered-low (Numbered.named lo hi h) e = absurd (omega arith)
+numbered-low Numbered.fsw e = absurd (omega arith)
+numbered-low (Numbered.flag h) e = absurd (omega arith)
+numbered-low (Numbered.reads h z) e = h
 
 worded-few : (k s : ℕ) → Worded k s → k < 256
 worded-few k s (Worded.equal h) = omega arith
@@ -87,11 +87,12 @@ digits : (t : Tables) (p : Place) (l : Line) (v : ℕ) → (v ≡ 10 → ⊥) �
 unfolding digitOk
 digits t p l v z e = ltb-true (10 * l .a + v) (2 ^ 64) (and-r (eqb (l .left) 0 || not (eqb (l .a) 0)) _ (rw (ne-eqb v 10 z) at e))
 
-module _ (t : Tables) (p : Place) (long : Long t) (few : p .count < 65536) (v : ℕ) where
-  plain : (l : Line) → v < sizeAt (l .stage) → l .node < 65535 → l .kind < 256 → l .sort < 3905 → l .b < 65536 → l .r < 65535
+-- of a state with the tables u, over columns t that have room for the line's node
+module _ (t u : Tables) (p : Place) (few : p .count < 65536) (v : ℕ) where
+  plain : (l : Line) → Roomed t (l .node) → v < sizeAt (l .stage) → l .node < 65535 → l .kind < 256 → l .sort < 3905 → l .b < 65536 → l .r < 65535
       → (l .stage ≡ 4 → ⊥) → (l .stage ≡ 5 → ⊥) → (l .stage ≡ 14 → ⊥) → Fits t p l v
-  plain l below n k s b r e f g = record {
-    long = long;
+  plain l room below n k s b r e f g = record {
+    room = room;
     node = n;
     kind = k;
     sort = s;
@@ -104,13 +105,13 @@ module _ (t : Tables) (p : Place) (long : Long t) (few : p .count < 65536) (v : 
     constant = λ z. absurd (g z);
   }
 
-  fit : (l : Line) → Lined t p l → v < sizeAt (l .stage) → okAt t p l v ≡ true → Fits t p l v
-  fit l at0 b e = plain l b (omega arith) (omega arith) (omega arith) (omega arith) (omega arith) (λ z. omega arith) (λ z. omega arith) (λ z. omega arith)
-  fit l (at1 q) b e = plain l b (omega arith) (omega arith) (omega arith) (omega arith) (omega arith) (λ z. omega arith) (λ z. omega arith) (λ z. omega arith)
-  fit l (at2 d) b e = plain l b (d .inside) (omega arith) (omega arith) (omega arith) (omega arith) (λ z. omega arith) (λ z. omega arith) (λ z. omega arith)
-  fit l (at3 d k) b e = plain l b (d .inside) (late-few _ k) (omega arith) (omega arith) (omega arith) (λ z. omega arith) (λ z. omega arith) (λ z. omega arith)
-  fit l (at4 d lo hi small zeros) b e = record {
-    long = long;
+  fit : (l : Line) → Lined u p l → Roomed t (l .node) → v < sizeAt (l .stage) → okAt u p l v ≡ true → Fits t p l v
+  fit l at0 h b e = plain l h b (omega arith) (omega arith) (omega arith) (omega arith) (omega arith) (λ z. omega arith) (λ z. omega arith) (λ z. omega arith)
+  fit l (at1 q) h b e = plain l h b (omega arith) (omega arith) (omega arith) (omega arith) (omega arith) (λ z. omega arith) (λ z. omega arith) (λ z. omega arith)
+  fit l (at2 d) h b e = plain l h b (d .inside) (omega arith) (omega arith) (omega arith) (omega arith) (λ z. omega arith) (λ z. omega arith) (λ z. omega arith)
+  fit l (at3 d k) h b e = plain l h b (d .inside) (late-few _ k) (omega arith) (omega arith) (omega arith) (λ z. omega arith) (λ z. omega arith) (λ z. omega arith)
+  fit l (at4 d lo hi small zeros) h b e = record {
+    room = h;
     node = d .inside;
     kind = omega arith;
     sort = omega arith;
@@ -118,12 +119,12 @@ module _ (t : Tables) (p : Place) (long : Long t) (few : p .count < 65536) (v : 
     rounding = omega arith;
     count = few;
     below = b;
-    digit = λ _ z. digits t p l v z (sym (at-4 t p l v refl .ok-is) ∙ e);
+    digit = λ _ z. digits u p l v z (sym (at-4 u p l v refl .ok-is) ∙ e);
     reads = λ z. absurd (omega arith);
     constant = λ z. absurd (omega arith);
   }
-  fit l (at5 d k) b e = record {
-    long = long;
+  fit l (at5 d k) h b e = record {
+    room = h;
     node = d .inside;
     kind = numbered-few _ _ _ _ k;
     sort = omega arith;
@@ -132,21 +133,21 @@ module _ (t : Tables) (p : Place) (long : Long t) (few : p .count < 65536) (v : 
     count = few;
     below = b;
     digit = λ z. absurd (omega arith);
-    reads = λ _ z. numbered-low _ _ _ _ (d .inside) k z;
+    reads = λ _ z. (let a = numbered-low k z in let m = h .sorts in omega arith);
     constant = λ z. absurd (omega arith);
   }
-  fit l (at6 q) b e = plain l b (omega arith) (omega arith) (omega arith) (omega arith) (omega arith) (λ z. omega arith) (λ z. omega arith) (λ z. omega arith)
-  fit l (at7 d) b e = plain l b (d .inside) (omega arith) (omega arith) (omega arith) (omega arith) (λ z. omega arith) (λ z. omega arith) (λ z. omega arith)
-  fit l (at8 d f) b e = plain l b (d .inside) (omega arith) (sort-small _ _ _ f) (omega arith) (omega arith) (λ z. omega arith) (λ z. omega arith) (λ z. omega arith)
-  fit l (at9 d f w) b e = plain l b (d .inside) (worded-few _ _ w) (sort-small _ _ _ f) (omega arith) (omega arith) (λ z. omega arith) (λ z. omega arith) (λ z. omega arith)
-  fit l (at10 d f w) b e = let k = kinded-few _ _ _ w in plain l b (d .inside) (k .0) (sort-small _ _ _ f) (omega arith) (k .1) (λ z. omega arith) (λ z. omega arith) (λ z. omega arith)
-  fit l (at11 d f u g w) b e = let k = paired-few _ _ _ _ w in plain l b (d .inside) (k .0) (sort-small _ _ _ f) (omega arith) (k .1) (λ z. omega arith) (λ z. omega arith) (λ z. omega arith)
-  fit l (at12 d f u w i j k) b e = plain l b (d .inside) (omega arith) (sort-small _ _ _ f) (let z = w .below in let y = d .inside in omega arith) (omega arith) (λ z. omega arith) (λ z. omega arith) (λ z. omega arith)
-  fit l (at13 d f i) b e = plain l b (d .inside) (omega arith) (sort-small _ _ _ f) (omega arith) (omega arith) (λ z. omega arith) (λ z. omega arith) (λ z. omega arith)
-  fit l (at14 x d f i c z k) b e =
-      let h = high-small _ _ _ _ _ i c z k in
+  fit l (at6 q) h b e = plain l h b (omega arith) (omega arith) (omega arith) (omega arith) (omega arith) (λ z. omega arith) (λ z. omega arith) (λ z. omega arith)
+  fit l (at7 d) h b e = plain l h b (d .inside) (omega arith) (omega arith) (omega arith) (omega arith) (λ z. omega arith) (λ z. omega arith) (λ z. omega arith)
+  fit l (at8 d f) h b e = plain l h b (d .inside) (omega arith) (sort-small _ _ _ f) (omega arith) (omega arith) (λ z. omega arith) (λ z. omega arith) (λ z. omega arith)
+  fit l (at9 d f w) h b e = plain l h b (d .inside) (worded-few _ _ w) (sort-small _ _ _ f) (omega arith) (omega arith) (λ z. omega arith) (λ z. omega arith) (λ z. omega arith)
+  fit l (at10 d f w) h b e = let k = kinded-few _ _ _ w in plain l h b (d .inside) (k .0) (sort-small _ _ _ f) (omega arith) (k .1) (λ z. omega arith) (λ z. omega arith) (λ z. omega arith)
+  fit l (at11 d f u g w) h b e = let k = paired-few _ _ _ _ w in plain l h b (d .inside) (k .0) (sort-small _ _ _ f) (omega arith) (k .1) (λ z. omega arith) (λ z. omega arith) (λ z. omega arith)
+  fit l (at12 d f u w i j k) h b e = plain l h b (d .inside) (omega arith) (sort-small _ _ _ f) (let z = w .below in let y = d .inside in omega arith) (omega arith) (λ z. omega arith) (λ z. omega arith) (λ z. omega arith)
+  fit l (at13 d f i) h b e = plain l h b (d .inside) (omega arith) (sort-small _ _ _ f) (omega arith) (omega arith) (λ z. omega arith) (λ z. omega arith) (λ z. omega arith)
+  fit l (at14 x d f i c z k) h b e =
+      let g = high-small _ _ _ _ _ i c z k in
       record {
-        long = long;
+        room = h;
         node = d .inside;
         kind = omega arith;
         sort = sort-small _ _ _ f;
@@ -156,11 +157,11 @@ module _ (t : Tables) (p : Place) (long : Long t) (few : p .count < 65536) (v : 
         below = b;
         digit = λ y. absurd (omega arith);
         reads = λ y. absurd (omega arith);
-        constant = λ _. h;
+        constant = λ _. g;
       }
-  fit l (at15 q) b e = plain l b (omega arith) (omega arith) (omega arith) (omega arith) (omega arith) (λ z. omega arith) (λ z. omega arith) (λ z. omega arith)
+  fit l (at15 q) h b e = plain l h b (omega arith) (omega arith) (omega arith) (omega arith) (omega arith) (λ z. omega arith) (λ z. omega arith) (λ z. omega arith)
 
--- what is known of the state, with few nodes, makes each choice fit
-pub fits : (σ : State) (v : ℕ) → Sound σ → σ .place .count < 65536 → v < sizeAt (σ .line .stage) → okAt (σ .tables) (σ .place) (σ .line) v ≡ true
-    → Fits (σ .tables) (σ .place) (σ .line) v
-fits σ v s few b e = fit (σ .tables) (σ .place) (s .nodes .long) few v (σ .line) (s .lined) b e
+-- what is known of the state, with few nodes, makes each choice fit the columns t
+pub fits : (σ : State) (t : Tables) (v : ℕ) → Sound σ → σ .place .count < 65536 → Roomed t (σ .line .node) → v < sizeAt (σ .line .stage)
+    → okAt (σ .tables) (σ .place) (σ .line) v ≡ true → Fits t (σ .place) (σ .line) v
+fits σ t v s few h b e = fit t (σ .tables) (σ .place) few v (σ .line) (s .lined) h b e

@@ -2,6 +2,7 @@ pub mod Inside
 pub mod Fits
 pub mod Ranks
 pub mod Counted
+pub mod Padded
 pub mod Held
 pub mod Ran
 pub mod Text

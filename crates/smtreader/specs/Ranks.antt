@@ -4,16 +4,16 @@ use mathlib.Core.Bool.{cond}
 use mathlib.Core.List.{List, [], _∷_}
 use Prim.Native.Nat.{ℕ, _+_, _*_, _≤_, _<_}
 use lib.Dec.{leb}
-use lib.ListN.{getD}
+use lib.ListN.{length, getD}
 use lib.Seq.{sets}
 use Rattle.needs.specs.Needed.{arity}
 use Rattle.smtgrammar.specs.State.{Tables}
 use Rattle.smtgrammar.specs.Rows.{rankAt, rowsBelow}
 use Rattle.smtsound.specs.Tables.{Is}
 
--- the rank of each number
+-- the rank of each number that has an entry
 pub record Ranks (t : Tables) (ranks : List ℕ) : Type 0 where
-  pub at : (i : ℕ) → i < 65536 → getD ranks i 0 ≡ rankAt t i
+  pub at : (i : ℕ) → i < length ranks → getD ranks i 0 ≡ rankAt t i
 
 -- a field of a node with n operands: operand j by its rank
 abbrev pub byRank : List ℕ → ℕ → ℕ → ℕ → ℕ
@@ -30,12 +30,12 @@ pub record Added (is : ℕ) (l l′ x : List ℕ) (at r : ℕ) : Type 0 where
   pub words : l′ ≡ sets l at x
   pub behind : r ≡ at + 4 * is
 
--- the operands of each node that is there are numbers, and the rows have room
-pub record Fit (t : Tables) (long : ℕ) : Type 0 where
+-- the operands of each node that is there are below m, and the rows have room
+pub record Fit (t : Tables) (m long : ℕ) : Type 0 where
   pub room : 4 * rankAt t 65535 ≤ long
-  pub one : (i : ℕ) → Is t i → 1 ≤ arity (getD (t .kinds) i 0) → getD (t .fieldA) i 0 < 65536
-  pub two : (i : ℕ) → Is t i → 2 ≤ arity (getD (t .kinds) i 0) → getD (t .fieldB) i 0 < 65536
-  pub three : (i : ℕ) → Is t i → 3 ≤ arity (getD (t .kinds) i 0) → getD (t .fieldC) i 0 < 65536
+  pub one : (i : ℕ) → Is t i → 1 ≤ arity (getD (t .kinds) i 0) → getD (t .fieldA) i 0 < m
+  pub two : (i : ℕ) → Is t i → 2 ≤ arity (getD (t .kinds) i 0) → getD (t .fieldB) i 0 < m
+  pub three : (i : ℕ) → Is t i → 3 ≤ arity (getD (t .kinds) i 0) → getD (t .fieldC) i 0 < m
 
 -- the rows of all nodes that are there stand at the front
 pub record Written (t : Tables) (l l′ : List ℕ) (r : ℕ) : Type 0 where

@@ -29,7 +29,7 @@ fn pick(is: bool, x: usize, y: usize) -> usize
 }
 
 // The lower of two numbers.
-fn least(x: usize, y: usize) -> usize
+pub(crate) fn least(x: usize, y: usize) -> usize
     ensures { λ r. ⌜ r ≡ min x y ⌝ }
 {
     if x <= y { x } else { y }
@@ -105,7 +105,7 @@ fn entered(
 
 // Number m is obliged to the sort s, where the test holds.
 fn obliged(sorts: &mut [u16], is: bool, m: usize, s: usize)
-    requires { ⌜ (s < 65536) × ((length (now sorts) ≡ 65536) × (is ≡ true → m < 65536)) ⌝ }
+    requires { ⌜ (s < 65536) × (is ≡ true → m < length (now sorts)) ⌝ }
     ensures { λ r. ⌜ now (sorts .exit) ≡ cond is (set (now (sorts .entry)) m s) (now (sorts .entry)) ⌝ }
 {
     if is {

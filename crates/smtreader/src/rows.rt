@@ -10,6 +10,7 @@ ghost use Rattle.smtgrammar.specs.Rows.{there};
 ghost use Rattle.smtchoices.specs.Seen.{seen};
 ghost use Rattle.smtreader.specs.Inside.{tablesOf, Bounded};
 ghost use Rattle.smtreader.specs.Ranks.{Ranks, rowOf, Added, Fit, Written};
+use crate::next;
 
 // 1 where node i is there.
 fn there(kinds: &[u8], i: usize) -> usize
@@ -24,12 +25,12 @@ fn there(kinds: &[u8], i: usize) -> usize
 
 // How many nodes below each number are there.
 fn rank(kinds: &[u8], ranks: &mut [u16])
-    requires { ⌜ length (now ranks) ≡ 65536 ⌝ }
+    requires { ⌜ length (now ranks) ≤ 65536 ⌝ }
     ensures { λ r. ⌜ Ranks (seen (now (kinds .entry)) [] []) (now (ranks .exit)) ⌝ }
 {
     let mut n: usize = 0;
     let mut i = 0;
-    while i < 65536 {
+    while i < ranks.len() {
         ranks[i] = n as u16;
         n += there(kinds, i);
         i += 1;
@@ -117,12 +118,13 @@ fn write(
     fc: &[u16],
     ranks: &[u16],
 ) -> usize
-    requires { ⌜ Ranks (seen (now kinds) [] []) (now ranks) × Fit (tablesOf (now kinds) (now fa) (now fb) (now fc) [] []) (length (now nodes)) ⌝ }
+    requires { ⌜ Ranks (seen (now kinds) [] []) (now ranks) × Fit (tablesOf (now kinds) (now fa) (now fb) (now fc) [] []) (length (now ranks)) (length (now nodes)) ⌝ }
     ensures { λ r. ⌜ Written (tablesOf (now (kinds .entry)) (now (fa .entry)) (now (fb .entry)) (now (fc .entry)) [] []) (now (nodes .entry)) (now (nodes .exit)) r ⌝ }
 {
+    let end = next::least(kinds.len(), 65535);
     let mut at = 0;
     let mut i = 0;
-    while i < 65535 {
+    while i < end {
         at = add(nodes, kinds, fa, fb, fc, ranks, at, i);
         i += 1;
     }
@@ -138,7 +140,7 @@ pub(crate) fn rows(
     fc: &[u16],
     ranks: &mut [u16],
 ) -> usize
-    requires { ⌜ (length (now ranks) ≡ 65536) × Fit (tablesOf (now kinds) (now fa) (now fb) (now fc) [] []) (length (now nodes)) ⌝ }
+    requires { ⌜ (length (now ranks) ≤ 65536) × Fit (tablesOf (now kinds) (now fa) (now fb) (now fc) [] []) (length (now ranks)) (length (now nodes)) ⌝ }
     ensures { λ r. ⌜ Written (tablesOf (now (kinds .entry)) (now (fa .entry)) (now (fb .entry)) (now (fc .entry)) [] []) (now (nodes .entry)) (now (nodes .exit)) r ⌝ }
 {
     rank(kinds, ranks);

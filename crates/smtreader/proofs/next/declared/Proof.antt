@@ -17,10 +17,10 @@ pick-requires : tie.Need-pick-requires
 pick-requires c κs = search needs
 
 obliged-requires : tie.Need-obliged-requires
-obliged-requires c κs = let q = c .before .before .before .before .before .before .before .before .before .before .before .pre in (rw (c .before .before .before .before .format-of .ensures) (format-small (c .before .before .before .before .before .before .before .before .before .before .before .args .w)), (search needs, λ z. q .reads (eqb-true _ _ z)))
+obliged-requires c κs = let q = c .before .before .before .before .before .before .before .before .before .before .before .pre in (rw (c .before .before .before .before .format-of .ensures) (format-small (c .before .before .before .before .before .before .before .before .before .before .before .args .w)), λ z. q .reads (eqb-true _ _ z))
 
 entered-requires : tie.Need-entered-requires
-entered-requires c κs = let q = c .before .before .before .before .before .before .before .before .before .before .before .before .before .before .before .before .before .before .before .before .pre .row in record { long = record { kinds = q .long .kinds; firsts = q .long .firsts; seconds = q .long .seconds; thirds = q .long .thirds; sorts = search needs; lowest = q .long .lowest }; node = q .node; kind = q .kind; second = rw (c .before .before .before .before .before .before .before .before .before .before .before .pick .ensures) (cond-below (leb (c .before .before .before .before .before .before .before .before .before .before .before .before .before .before .before .before .before .before .before .before .args .l .kind) 3) 65536 (c .before .before .before .before .before .before .before .before .before .before .before .before .before .before .before .before .before .before .before .before .args .w) 0 (q .second) (omega arith)); third = omega arith; sort = q .sort }
+entered-requires c κs = let q = c .before .before .before .before .before .before .before .before .before .before .before .before .before .before .before .before .before .before .before .before .pre .row in record { room = record { kinds = q .room .kinds; firsts = q .room .firsts; seconds = q .room .seconds; thirds = q .room .thirds; sorts = search needs; lowest = q .room .lowest }; node = q .node; kind = q .kind; second = rw (c .before .before .before .before .before .before .before .before .before .before .before .pick .ensures) (cond-below (leb (c .before .before .before .before .before .before .before .before .before .before .before .before .before .before .before .before .before .before .before .before .args .l .kind) 3) 65536 (c .before .before .before .before .before .before .before .before .before .before .before .before .before .before .before .before .before .before .before .before .args .w) 0 (q .second) (omega arith)); third = omega arith; sort = q .sort }
 
 declared-place-requires : tie.Need-declared-place-requires
 declared-place-requires c κs = (c .before .before .before .before .before .before .before .before .before .before .before .before .before .before .before .before .before .before .before .before .before .before .before .before .before .before .before .before .before .before .before .before .before .pre .row .node, c .before .before .before .before .before .before .before .before .before .before .before .before .before .before .before .before .before .before .before .before .before .before .before .before .before .before .before .before .before .before .before .before .before .pre .count)

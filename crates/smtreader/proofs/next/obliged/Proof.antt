@@ -7,10 +7,10 @@ cast-sorts : tie.Need-cast-sorts
 cast-sorts c = search needs
 
 mul-sorts : tie.Need-mul-sorts
-mul-sorts c = omega (arith, c .before .pre .1 .1 (c .if1 .taken))
+mul-sorts c = omega (arith, c .before .pre .1 (c .if1 .taken))
 
 slice-write-sorts : tie.Need-slice-write-sorts
-slice-write-sorts c = omega (arith, c .before .pre .1 .1 (c .if1 .taken))
+slice-write-sorts c = omega (arith, c .before .pre .1 (c .if1 .taken))
 
 same-length : tie.Need-same-length
 same-length c = search needs

@@ -11,10 +11,10 @@ use Rattle.smtreader.proofs.rows.rank.Statement.{statement}
 use Rattle.smtreader.proofs.rows.rank.Tie as tie
 
 abbrev Inv-loop : tie.InvT-loop
-Inv-loop kinds ranks₀ n₀ i₀ ranks n i = (i ≤ 65536) × ((length ranks ≡ length ranks₀) × ((n ≡ rankAt (seen kinds [] []) i) × ((j : ℕ) → j < i → getD ranks j 0 ≡ rankAt (seen kinds [] []) j)))
+Inv-loop kinds ranks₀ n₀ i₀ ranks n i = (i ≤ length ranks₀) × ((length ranks ≡ length ranks₀) × ((n ≡ rankAt (seen kinds [] []) i) × ((j : ℕ) → j < i → getD ranks j 0 ≡ rankAt (seen kinds [] []) j)))
 
 abbrev μ-loop : tie.MeasureT-loop
-μ-loop kinds ranks₀ n₀ i₀ ranks n i = 65536 - i
+μ-loop kinds ranks₀ n₀ i₀ ranks n i = length ranks₀ - i
 
 loop-holds : tie.Need-loop-holds Inv-loop μ-loop
 unfolding rankAt
