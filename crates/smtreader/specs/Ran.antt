@@ -1,24 +1,24 @@
 -- What a run over a text says, and a turn of it.
 use mathlib.Core.Path.{_≡_, refl, sym, _∙_}
-use mathlib.Core.Bool.{true}
 use mathlib.Core.List.{List, []}
 use Prim.Native.Nat.{ℕ, _+_, _-_, _≤_, _<_}
+use native.Mathlib.Omega.{arith}
 use lib.ListN.{length, take, drop}
 use Rattle.viable.specs.Grammar.{Got}
 use Rattle.viable.specs.Runs.{Stops}
 use Rattle.smtgrammar.specs.State.{Tables, State, empty, start, noLine}
-use Rattle.smtgrammar.specs.Allowed.{okAt}
 use Rattle.smtgrammar.specs.Rows.{rankAt}
-use Rattle.smtgrammar.specs.Grammar.{sizeAt, Choice, Token, done, Reads}
+use Rattle.smtgrammar.specs.Grammar.{Choice, Token, done, Reads}
 use Rattle.smtgrammar.specs.declared.Place.{Place}
 use Rattle.smtgrammar.specs.declared.Line.{Line}
-use Rattle.smtlive.specs.Live.{Live}
 use Rattle.smtsound.specs.Lines.{Sound}
 use Rattle.smttokens.specs.Taken.{columns, state, Right}
 use Rattle.smttokens.specs.declared.Token as tokens
 use Rattle.smttokens.specs.declared.Token.the-variants.{Took, Stop}
-use Rattle.smtreader.specs.Counted.{Counted}
+use Rattle.smtreader.specs.Counted.{rank-most}
+use Rattle.smtreader.specs.Fits.{fits}
 use Rattle.smtreader.specs.Held.{Held, stepped, part, held-start, held-on, held-more, held-inside, held-stops}
+use Rattle.smtreader.specs.Inside.{Fits}
 use Rattle.smtreader.specs.declared.Ran as ran
 use Rattle.smtreader.specs.declared.Ran.the-variants as runs
 
@@ -26,20 +26,13 @@ use Rattle.smtreader.specs.declared.Ran.the-variants as runs
 abbrev pub none : Tables
 none = columns [] [] [] [] [] []
 
--- what a choice needs for its step: all that a loop over the tokens keeps, and that it is allowed
-pub record Ready (σ : State) (v : ℕ) : Type 0 where
-  pub live : Live σ
-  pub sound : Sound σ
-  pub counted : Counted σ
-  pub below : v < sizeAt (σ .line .stage)
-  pub allowed : okAt (σ .tables) (σ .place) (σ .line) v ≡ true
-
 -- the tables of the state that the text leaves, and its count; or the place from which no text can follow
 pub record Read (x : List ℕ) (t : Tables) (n : ℕ) : Type 0 where
   pub last : State
   pub reads : Reads x last
   pub tables : last .tables ≡ t
   pub count : last .place .count ≡ n
+  pub sound : Sound last
   pub ranked : last .place .count ≡ rankAt t 65535
 
 abbrev pub Ends : List ℕ → Tables → ran.Ran → Type 0
@@ -77,10 +70,13 @@ module _ {x : List ℕ} {σ : State} {at : ℕ} (h : Held x σ at) (r : tokens.T
   got : (v n : ℕ) → r ≡ Took v n → Got (Choice σ) (drop at x) v n
   got v n e = rw (part x at) at (rw e at k)
 
-  pub ready : (v n : ℕ) → r ≡ Took v n → Ready σ v
+  -- .. fits
+  pub ready : (v n : ℕ) → r ≡ Took v n → Fits (σ .tables) (σ .place) (σ .line) v
   ready v n e =
       let g = got v n e in
-      record { live = h .live; sound = h .sound; counted = h .counted; below = g .is .below; allowed = g .is .allowed }
+      let c = h .counted in
+      let m = rank-most (σ .tables) 65535 in
+      fits σ v (h .sound) (omega arith) (g .is .below) (g .is .allowed)
 
   pub on : (v n : ℕ) (τ : State) → r ≡ Took v n → τ ≡ stepped σ v → Held x τ (at + n)
   on v n τ e f = rw f (held-on h v n (got v n e))
