@@ -74,6 +74,25 @@ sort-small t n s h = let z = good-small s (record { is = either (eqb s 0) (isBit
     either true y e = refl
     either false y e = e
 
+-- the node of a line has a number
+pub node-small : {t : Tables} {p : Place} {l : Line} → Lined t p l → l .node < 65535
+node-small at0 = omega arith
+node-small (at1 q) = omega arith
+node-small (at2 d) = d .inside
+node-small (at3 d k) = d .inside
+node-small (at4 d lo hi small zeros) = d .inside
+node-small (at5 d k) = d .inside
+node-small (at6 q) = omega arith
+node-small (at7 d) = d .inside
+node-small (at8 d f) = d .inside
+node-small (at9 d f w) = d .inside
+node-small (at10 d f w) = d .inside
+node-small (at11 d f u g w) = d .inside
+node-small (at12 d f u w i j k) = d .inside
+node-small (at13 d f i) = d .inside
+node-small (at14 x d f i c z k) = d .inside
+node-small (at15 q) = omega arith
+
 -- the high word of a constant of fewer than 80 digits
 high-small : (a b e m s : ℕ) → isBits s ≡ true → 1 ≤ m → e + m ≡ s → b * 2 ^ 64 + a < 2 ^ e → b < 32768
 high-small a b e m s h i j k =
@@ -89,9 +108,9 @@ digits t p l v z e = ltb-true (10 * l .a + v) (2 ^ 64) (and-r (eqb (l .left) 0 |
 
 -- of a state with the tables u, over columns t that have room for the line's node
 module _ (t u : Tables) (p : Place) (few : p .count < 65536) (v : ℕ) where
-  plain : (l : Line) → Roomed t (l .node) → v < sizeAt (l .stage) → l .node < 65535 → l .kind < 256 → l .sort < 3905 → l .b < 65536 → l .r < 65535
+  plain : (l : Line) → Roomed t (l .node) → l .node < 65535 → v < sizeAt (l .stage) → l .kind < 256 → l .sort < 3905 → l .b < 65536 → l .r < 65535
       → (l .stage ≡ 4 → ⊥) → (l .stage ≡ 5 → ⊥) → (l .stage ≡ 14 → ⊥) → Fits t p l v
-  plain l room below n k s b r e f g = record {
+  plain l room n below k s b r e f g = record {
     room = room;
     node = n;
     kind = k;
@@ -105,14 +124,14 @@ module _ (t u : Tables) (p : Place) (few : p .count < 65536) (v : ℕ) where
     constant = λ z. absurd (g z);
   }
 
-  fit : (l : Line) → Lined u p l → Roomed t (l .node) → v < sizeAt (l .stage) → okAt u p l v ≡ true → Fits t p l v
-  fit l at0 h b e = plain l h b (omega arith) (omega arith) (omega arith) (omega arith) (omega arith) (λ z. omega arith) (λ z. omega arith) (λ z. omega arith)
-  fit l (at1 q) h b e = plain l h b (omega arith) (omega arith) (omega arith) (omega arith) (omega arith) (λ z. omega arith) (λ z. omega arith) (λ z. omega arith)
-  fit l (at2 d) h b e = plain l h b (d .inside) (omega arith) (omega arith) (omega arith) (omega arith) (λ z. omega arith) (λ z. omega arith) (λ z. omega arith)
-  fit l (at3 d k) h b e = plain l h b (d .inside) (late-few _ k) (omega arith) (omega arith) (omega arith) (λ z. omega arith) (λ z. omega arith) (λ z. omega arith)
-  fit l (at4 d lo hi small zeros) h b e = record {
+  fit : (l : Line) → Lined u p l → Roomed t (l .node) → l .node < 65535 → v < sizeAt (l .stage) → okAt u p l v ≡ true → Fits t p l v
+  fit l at0 h n b e = plain l h n b (omega arith) (omega arith) (omega arith) (omega arith) (λ z. omega arith) (λ z. omega arith) (λ z. omega arith)
+  fit l (at1 q) h n b e = plain l h n b (omega arith) (omega arith) (omega arith) (omega arith) (λ z. omega arith) (λ z. omega arith) (λ z. omega arith)
+  fit l (at2 d) h n b e = plain l h n b (omega arith) (omega arith) (omega arith) (omega arith) (λ z. omega arith) (λ z. omega arith) (λ z. omega arith)
+  fit l (at3 d k) h n b e = plain l h n b (late-few _ k) (omega arith) (omega arith) (omega arith) (λ z. omega arith) (λ z. omega arith) (λ z. omega arith)
+  fit l (at4 d lo hi small zeros) h n b e = record {
     room = h;
-    node = d .inside;
+    node = n;
     kind = omega arith;
     sort = omega arith;
     high = omega arith;
@@ -123,9 +142,9 @@ module _ (t u : Tables) (p : Place) (few : p .count < 65536) (v : ℕ) where
     reads = λ z. absurd (omega arith);
     constant = λ z. absurd (omega arith);
   }
-  fit l (at5 d k) h b e = record {
+  fit l (at5 d k) h n b e = record {
     room = h;
-    node = d .inside;
+    node = n;
     kind = numbered-few _ _ _ _ k;
     sort = omega arith;
     high = omega arith;
@@ -136,19 +155,19 @@ module _ (t u : Tables) (p : Place) (few : p .count < 65536) (v : ℕ) where
     reads = λ _ z. (let a = numbered-low k z in let m = h .sorts in omega arith);
     constant = λ z. absurd (omega arith);
   }
-  fit l (at6 q) h b e = plain l h b (omega arith) (omega arith) (omega arith) (omega arith) (omega arith) (λ z. omega arith) (λ z. omega arith) (λ z. omega arith)
-  fit l (at7 d) h b e = plain l h b (d .inside) (omega arith) (omega arith) (omega arith) (omega arith) (λ z. omega arith) (λ z. omega arith) (λ z. omega arith)
-  fit l (at8 d f) h b e = plain l h b (d .inside) (omega arith) (sort-small _ _ _ f) (omega arith) (omega arith) (λ z. omega arith) (λ z. omega arith) (λ z. omega arith)
-  fit l (at9 d f w) h b e = plain l h b (d .inside) (worded-few _ _ w) (sort-small _ _ _ f) (omega arith) (omega arith) (λ z. omega arith) (λ z. omega arith) (λ z. omega arith)
-  fit l (at10 d f w) h b e = let k = kinded-few _ _ _ w in plain l h b (d .inside) (k .0) (sort-small _ _ _ f) (omega arith) (k .1) (λ z. omega arith) (λ z. omega arith) (λ z. omega arith)
-  fit l (at11 d f u g w) h b e = let k = paired-few _ _ _ _ w in plain l h b (d .inside) (k .0) (sort-small _ _ _ f) (omega arith) (k .1) (λ z. omega arith) (λ z. omega arith) (λ z. omega arith)
-  fit l (at12 d f u w i j k) h b e = plain l h b (d .inside) (omega arith) (sort-small _ _ _ f) (let z = w .below in let y = d .inside in omega arith) (omega arith) (λ z. omega arith) (λ z. omega arith) (λ z. omega arith)
-  fit l (at13 d f i) h b e = plain l h b (d .inside) (omega arith) (sort-small _ _ _ f) (omega arith) (omega arith) (λ z. omega arith) (λ z. omega arith) (λ z. omega arith)
-  fit l (at14 x d f i c z k) h b e =
+  fit l (at6 q) h n b e = plain l h n b (omega arith) (omega arith) (omega arith) (omega arith) (λ z. omega arith) (λ z. omega arith) (λ z. omega arith)
+  fit l (at7 d) h n b e = plain l h n b (omega arith) (omega arith) (omega arith) (omega arith) (λ z. omega arith) (λ z. omega arith) (λ z. omega arith)
+  fit l (at8 d f) h n b e = plain l h n b (omega arith) (sort-small _ _ _ f) (omega arith) (omega arith) (λ z. omega arith) (λ z. omega arith) (λ z. omega arith)
+  fit l (at9 d f w) h n b e = plain l h n b (worded-few _ _ w) (sort-small _ _ _ f) (omega arith) (omega arith) (λ z. omega arith) (λ z. omega arith) (λ z. omega arith)
+  fit l (at10 d f w) h n b e = let k = kinded-few _ _ _ w in plain l h n b (k .0) (sort-small _ _ _ f) (omega arith) (k .1) (λ z. omega arith) (λ z. omega arith) (λ z. omega arith)
+  fit l (at11 d f u g w) h n b e = let k = paired-few _ _ _ _ w in plain l h n b (k .0) (sort-small _ _ _ f) (omega arith) (k .1) (λ z. omega arith) (λ z. omega arith) (λ z. omega arith)
+  fit l (at12 d f u w i j k) h n b e = plain l h n b (omega arith) (sort-small _ _ _ f) (let z = w .below in let y = d .inside in omega arith) (omega arith) (λ z. omega arith) (λ z. omega arith) (λ z. omega arith)
+  fit l (at13 d f i) h n b e = plain l h n b (omega arith) (sort-small _ _ _ f) (omega arith) (omega arith) (λ z. omega arith) (λ z. omega arith) (λ z. omega arith)
+  fit l (at14 x d f i c z k) h n b e =
       let g = high-small _ _ _ _ _ i c z k in
       record {
         room = h;
-        node = d .inside;
+        node = n;
         kind = omega arith;
         sort = sort-small _ _ _ f;
         high = omega arith;
@@ -159,9 +178,9 @@ module _ (t u : Tables) (p : Place) (few : p .count < 65536) (v : ℕ) where
         reads = λ y. absurd (omega arith);
         constant = λ _. g;
       }
-  fit l (at15 q) h b e = plain l h b (omega arith) (omega arith) (omega arith) (omega arith) (omega arith) (λ z. omega arith) (λ z. omega arith) (λ z. omega arith)
+  fit l (at15 q) h n b e = plain l h n b (omega arith) (omega arith) (omega arith) (omega arith) (λ z. omega arith) (λ z. omega arith) (λ z. omega arith)
 
 -- what is known of the state, with few nodes, makes each choice fit the columns t
 pub fits : (σ : State) (t : Tables) (v : ℕ) → Sound σ → σ .place .count < 65536 → Roomed t (σ .line .node) → v < sizeAt (σ .line .stage)
     → okAt (σ .tables) (σ .place) (σ .line) v ≡ true → Fits t (σ .place) (σ .line) v
-fits σ t v s few h b e = fit t (σ .tables) (σ .place) few v (σ .line) (s .lined) h b e
+fits σ t v s few h b e = fit t (σ .tables) (σ .place) few v (σ .line) (s .lined) h (node-small (s .lined)) b e

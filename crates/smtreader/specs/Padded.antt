@@ -6,10 +6,10 @@ use Prim.Native.Nat.{ℕ, zero, suc, _+_, _-_, _≤_, _<_}
 use native.Mathlib.Omega.{arith}
 use borrow.Author.Tests.{eqb-true}
 use lib.Dec.{leb, ltb, eqb}
-use lib.ListN.{length, getD, set, replicate, length-append, length-set, length-replicate, List·getD-eq-default}
+use lib.ListN.{length, getD, set, replicate, length-set, length-replicate, replicate-append-replicate, List·getD-eq-default}
 use lib.Seq.{set-append-left}
 use Rattle.needs.specs.Needed.{arity}
-use Rattle.smtgrammar.specs.State.{Tables, State}
+use Rattle.smtgrammar.specs.State.{limit, Tables, State, empty}
 use Rattle.smtgrammar.specs.Allowed.{formatOf, lineOk, kindOk, numberOk, digitOk, widthOk, definedOk, sortOk, openingOk, sortTaken, wordOk, firstOk, placeOk, okAt}
 use Rattle.smtgrammar.specs.Tokens.{nodeName, assertedText, textAt}
 use Rattle.smtgrammar.specs.Next.{gapFrom, owedFrom, dueFrom, entered, obliged, declared, defined, asserted, termed, kindOf, secondField, thirdField, operand₀, operand₁, word, opened, digit, begun, numeral, nextAt}
@@ -41,13 +41,22 @@ pub set-pad : (l : List ℕ) (n v : ℕ) → n < length l → set (pad l) n v �
 unfolding pad
 set-pad l n v h = rw (length-set l n v) (set-append-left l (replicate (65536 - length l) 0) n v h)
 
-pub pad-long : (l : List ℕ) → length l ≤ 65536 → length (pad l) ≡ 65536
+zeros-pad : (n : ℕ) → n ≤ 65536 → pad (replicate n 0) ≡ replicate 65536 0
 unfolding pad
-pad-long l h = rw (length-append l (replicate (65536 - length l) 0), length-replicate {A = ℕ} (65536 - length l) 0) (omega arith)
+zeros-pad n h =
+    let e : n + (65536 - n) ≡ 65536 = omega arith in
+    rw (length-replicate {A = ℕ} n 0, replicate-append-replicate {A = ℕ} n (65536 - n) 0, e)
 
 -- the long columns that these ones stand for
 abbrev pub padded : Tables → Tables
 padded t = record { kinds = pad (t .kinds); fieldA = pad (t .fieldA); fieldB = pad (t .fieldB); fieldC = pad (t .fieldC); sorts = pad (t .sorts); lowest = t .lowest }
+
+-- nothing has been read, in columns of n entries
+abbrev pub blank : ℕ → Tables
+blank n = record { kinds = replicate n 0; fieldA = replicate n 0; fieldB = replicate n 0; fieldC = replicate n 0; sorts = replicate n 0; lowest = replicate 3905 limit }
+
+pub blank-padded : (n : ℕ) → n ≤ 65536 → padded (blank n) ≡ empty
+blank-padded n h = rw (zeros-pad n h)
 
 abbrev pub padState : State → State
 padState σ = state (padded (σ .tables)) (σ .place) (σ .line)

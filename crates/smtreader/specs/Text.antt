@@ -1,25 +1,20 @@
 -- WHAT READING A TEXT PROMISES: the nodes that it says, or the place from which no text can follow.
-use mathlib.Core.Path.{_≡_, refl, sym, _∙_}
-use mathlib.Core.List.{List, [], _++_}
-use Prim.Native.Nat.{ℕ, zero, suc, _*_, _≤_, _<_}
+use mathlib.Core.Path.{_≡_, refl, sym, ap, _∙_}
+use mathlib.Core.List.{List, _++_}
+use Prim.Native.Nat.{ℕ, _*_, _≤_, _<_}
 use native.Mathlib.Omega.{arith}
-use lib.ListN.{length, drop, getD}
-use Rattle.viable.specs.Runs.{Stops}
+use lib.ListN.{length, drop}
+use Rattle.viable.specs.Runs.{Stops, only, never, one-place}
 use Rattle.lists.specs.Rows.{roomOf}
-use Rattle.smtgrammar.specs.State.{Tables, State, start}
+use Rattle.smtgrammar.specs.State.{State, start}
 use Rattle.smtgrammar.specs.Grammar.{Token, done, Reads}
-use Rattle.smtgrammar.specs.Rows.{rankAt, rowsBelow}
-use Rattle.smttokens.specs.Taken.{columns}
-use Rattle.smtreader.specs.Counted.{same-rank}
-use Rattle.smtreader.specs.Ran.{Read}
+use Rattle.smtgrammar.specs.Rows.{rowsBelow}
+use Rattle.smtlive.specs.Apart.{apart}
+use Rattle.smtlive.specs.Full.{full}
 use Rattle.smtreader.specs.declared.Reading as read
 use Rattle.smtreader.specs.declared.Reading.the-variants as reads
-
--- the rows of the nodes that are there stand in front, and the rest is as it was
-pub record Fills (t : Tables) (ranks ranks′ old new : List ℕ) : Type 0 where
-  pub kept : length ranks′ ≡ length ranks
-  pub nodes : new ≡ rowsBelow t 65535 ++ drop (4 * rankAt t 65535) old
-  pub long : length new ≡ length old
+use Rattle.smtreader.specs.declared.Tried as tried
+use Rattle.smtreader.specs.declared.Tried.the-variants as tries
 
 -- n nodes, which fit
 pub record Rows (x old : List ℕ) (n : ℕ) (new : List ℕ) : Type 0 where
@@ -45,35 +40,47 @@ ReadsText x old (reads.Rows n) new = Rows x old n new
 ReadsText x old (reads.Stop p) new = Stopped x old p new
 ReadsText x old reads.Room new = Full x old new
 
--- rows and ranks are by kinds and fields alone
-module _ (kinds fa fb fc sorts lowest : List ℕ) where
-  rank-by : (n : ℕ) → rankAt (columns kinds fa fb fc sorts lowest) n ≡ rankAt (columns kinds fa fb fc [] []) n
-  rank-by n = same-rank (columns kinds fa fb fc [] []) (columns kinds fa fb fc sorts lowest) n (λ i h. refl)
+-- what columns of n entries make of a text: what reading it promises; or they are too short, and nothing is written
+abbrev pub TriesText : List ℕ → List ℕ → ℕ → tried.Tried → List ℕ → Type 0
+TriesText x old n (tries.Told r) new = ReadsText x old r new
+TriesText x old n tries.Long new = (n < 65536) × (new ≡ old)
 
-  rows-by : (n : ℕ) → rowsBelow (columns kinds fa fb fc sorts lowest) n ≡ rowsBelow (columns kinds fa fb fc [] []) n
-  unfolding rowsBelow
-  rows-by zero = refl
-  rows-by (suc n) = rw (rows-by n, rank-by (getD fa n 0), rank-by (getD fb n 0), rank-by (getD fc n 0))
+module _ {x : List ℕ} where
+  same : {ω ψ : State} → Reads x ω → Reads x ψ → ω ≡ ψ
+  same {ω} {ψ} r s = only Token done full apart start ω ψ x r s
 
-  module _ {x : List ℕ} {n : ℕ} (h : Read x (columns kinds fa fb fc sorts lowest) n) where
-    rank-is : rankAt (columns kinds fa fb fc [] []) 65535 ≡ n
-    rank-is = sym (rank-by 65535) ∙ sym (h .ranked) ∙ h .count
+  same-count : {ω ψ : State} → Reads x ω → Reads x ψ → ω .place .count ≡ ψ .place .count
+  same-count r s = ap (λ (σ : State). σ .place .count) (same r s)
 
-    -- the rows fit where their number is no more than the room
-    pub fits-in : (m r : ℕ) → r ≡ roomOf m → n ≤ r → 4 * rankAt (columns kinds fa fb fc [] []) 65535 ≤ m
-    unfolding roomOf
-    fits-in m r e l = rw rank-is (omega arith)
+  stopped : {ω : State} {p : ℕ} → Reads x ω → Stops Token done start x p → ⊥
+  stopped {ω} {p} r s = never Token done start x p s ω r
 
-    pub filled : {ranks ranks′ old new : List ℕ} (r : ℕ) → Fills (columns kinds fa fb fc [] []) ranks ranks′ old new → r ≡ roomOf (length old) → n ≤ r
-        → Rows x old n new
-    filled {old = old} {new = new} r f e l =
-        record {
-          last = h .last;
-          reads = h .reads;
-          count = sym (h .count);
-          fits = omega arith;
-          nodes = rw (h .tables, rows-by 65535, ← rank-is) (f .nodes);
-        }
+  place : {p q : ℕ} → Stops Token done start x p → Stops Token done start x q → p ≡ q
+  place {p} {q} s t =
+      let h : p < q → ⊥ = one-place Token done start x p q s t in
+      let k : q < p → ⊥ = one-place Token done start x q p t s in
+      omega arith
 
-    pub too-many : {old : List ℕ} (r : ℕ) → r ≡ roomOf (length old) → r < n → Full x old old
-    too-many r e l = record { last = h .last; reads = h .reads; many = (let c = h .count in omega arith); nodes = refl }
+-- ONE READING: a text, and what the nodes were, fix the answer and what the nodes are
+pub one-reading : (x old l m : List ℕ) (a b : read.Reading) → ReadsText x old a l → ReadsText x old b m → (a ≡ b) × (l ≡ m)
+one-reading x old l m (reads.Rows n) (reads.Rows k) p q =
+    let e : n ≡ k = p .count ∙ same-count (p .reads) (q .reads) ∙ sym (q .count) in
+    (rw e, p .nodes ∙ rw (e, same (p .reads) (q .reads)) (sym (q .nodes)))
+one-reading x old l m (reads.Rows n) (reads.Stop k) p q = absurd (stopped (p .reads) (q .stops))
+one-reading x old l m (reads.Rows n) reads.Room p q =
+    let e = same-count (p .reads) (q .reads) in
+    let f = p .count in
+    let g = p .fits in
+    let h = q .many in
+    absurd (omega arith)
+one-reading x old l m (reads.Stop n) (reads.Rows k) p q = absurd (stopped (q .reads) (p .stops))
+one-reading x old l m (reads.Stop n) (reads.Stop k) p q = (rw (place (p .stops) (q .stops)), p .nodes ∙ sym (q .nodes))
+one-reading x old l m (reads.Stop n) reads.Room p q = absurd (stopped (q .reads) (p .stops))
+one-reading x old l m reads.Room (reads.Rows k) p q =
+    let e = same-count (p .reads) (q .reads) in
+    let f = q .count in
+    let g = q .fits in
+    let h = p .many in
+    absurd (omega arith)
+one-reading x old l m reads.Room (reads.Stop k) p q = absurd (stopped (p .reads) (q .stops))
+one-reading x old l m reads.Room reads.Room p q = (refl, p .nodes ∙ sym (q .nodes))
