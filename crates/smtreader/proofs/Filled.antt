@@ -4,7 +4,7 @@ use mathlib.Core.List.{List, _++_}
 use Prim.Native.Nat.{ℕ, _+_, _*_, _≤_, _<_}
 use native.Mathlib.Omega.{arith}
 use lib.ListN.{length, drop}
-use lib.Seq.{sets, sets-eq, length-sets}
+use lib.Seq.{sets, sets-eq}
 use Rattle.lists.specs.Rows.{roomOf}
 use Rattle.smtgrammar.specs.State.{Tables}
 use Rattle.smtgrammar.specs.Rows.{rankAt, rowsBelow}
@@ -50,7 +50,3 @@ module _ (t : Tables) {x : List ℕ} {n : ℕ} (h : Read x t n) where
       fits = omega arith;
       nodes = rw (h .tables, rows-padded t 65535) (w .words ∙ rw (rows-same t 65535) (front l));
     }
-
--- no word is added
-pub as-long : {t : Tables} {old new : List ℕ} {c : ℕ} → Written t old new c → length new ≡ length old
-as-long {t} {old} w = rw (w .words) (length-sets old 0 (rowsBelow t 65535))
