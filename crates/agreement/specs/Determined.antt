@@ -44,7 +44,8 @@ use Rattle.export.specs.Answers.{Said, Tells, ReadsRecord}
 use Rattle.export.specs.Lifts.{Lifted, Lifts}
 use Rattle.export.specs.Steps.{Stepped, Steps}
 use Rattle.export.specs.Values.{ReadsImage, WritesImage, ChecksNodes, EvaluatesNodes}
-use Rattle.export.specs.Texts.{readSaid, Answers, WritesText, ReadsText}
+use Rattle.export.specs.Flat.{atLeast}
+use Rattle.export.specs.Texts.{Answers, WritesText, ReadsText}
 
 -- What a contract claims, at lifetimes, of arguments, an answer and the parameters at exit
 module _ {L : Type 0} {A R E : L → Type 0} (P : (κ : L) → A κ → R κ → E κ → Type 0) where

@@ -6,12 +6,10 @@ use Prim.Native.Nat.{ℕ, zero, suc, _+_, _*_, _≤_, _<_}
 use native.Mathlib.Nat.{add-zero}
 use native.Mathlib.Omega.{arith}
 use native.Mathlib.Decide.{le-ind}
-use borrow.Author.Tests.{eqb-true, leb-true, leb-false, le-leb, lt-leb, eq-eqb}
-use lib.Dec.{leb, eqb}
+use borrow.Author.Tests.{eqb-true, le-leb, lt-leb, eq-eqb}
 use lib.ListN.{length, getD, length-append, List·getD-append}
 use lib.Seq.{getD-append-add, getD-at}
 use Rattle.lists.specs.Rows.{roomOf}
-use Rattle.sorts.specs.Sorts.{sortRow}
 use Rattle.sorts.specs.Lists.{field, rowSort, sorts}
 use Rattle.sorts.specs.Check.{checkOf, firstFault}
 use Rattle.sorts.specs.Laws.{Passes, length-sorts, sorts-suc, passed-suc, passed-room}
@@ -23,51 +21,7 @@ use Rattle.smttext.specs.Names.{kindAt}
 use Rattle.smttext.specs.Text.{on}
 use Rattle.smttext.specs.Subset.{Kept, rank, fieldBy, compact}
 use Rattle.smtsound.specs.Tables.{same?}
-use Rattle.smtcomplete.specs.Facts.{sortAt, operand-of, own-row, has-sort}
-
--- two choices by one test
-choose : (t : Bool) {x x′ y y′ : ℕ} → (t ≡ true → x ≡ x′) → (t ≡ false → y ≡ y′) → cond t x y ≡ cond t x′ y′
-choose true f g = f refl
-choose false f g = g refl
-
--- field j of a row of kind k where it is no operand, and its sort where it is one; else 0
-abbrev otherField : ℕ → ℕ → ℕ → ℕ
-otherField k j v = cond (leb j (arity k)) 0 v
-
-abbrev operandSort : ℕ → ℕ → ℕ → ℕ
-operandSort k j s = cond (leb j (arity k)) s 0
-
--- a row of the table, where the kind is its own
-row : (k j : ℕ) {x x′ y y′ : ℕ} → (k ≡ j → x ≡ x′) → y ≡ y′ → cond (eqb k j) x y ≡ cond (eqb k j) x′ y′
-row k j f e = choose (eqb k j) (λ q. f (eqb-true k j q)) (λ _. e)
-
--- the table looks at the sorts of operands, and at the fields that are none
-table : (k a b c sa sb sc : ℕ) → sortRow k a b c sa sb sc ≡ sortRow k (otherField k 1 a) (otherField k 2 b) (otherField k 3 c) (operandSort k 1 sa) (operandSort k 2 sb) (operandSort k 3 sc)
-unfolding sortRow arity
-table k a b c sa sb sc =
-    row k 1 (λ e. rw e) (row k 2 (λ e. rw e) (row k 3 (λ e. rw e) (row k 4 (λ e. rw e) (row k 5 (λ e. rw e)
-    (row k 6 (λ e. rw e) (row k 7 (λ e. rw e) (row k 8 (λ e. rw e) (row k 9 (λ e. rw e) (row k 10 (λ e. rw e)
-    (row k 11 (λ e. rw e) (row k 12 (λ e. rw e) (row k 13 (λ e. rw e) (row k 14 (λ e. rw e) (row k 15 (λ e. rw e)
-    (row k 16 (λ e. rw e) (row k 17 (λ e. rw e) (row k 18 (λ e. rw e) (row k 19 (λ e. rw e) (row k 20 (λ e. rw e)
-    (row k 21 (λ e. rw e) (row k 22 (λ e. rw e) (row k 23 (λ e. rw e) (row k 24 (λ e. rw e) (row k 25 (λ e. rw e)
-    (row k 26 (λ e. rw e) (row k 27 (λ e. rw e) (row k 28 (λ e. rw e) (row k 29 (λ e. rw e)
-    refl))))))))))))))))))))))))))))
-
--- place j of two rows of kind k: operands of one sort, or one field
-record Alike (k j v s v′ s′ : ℕ) : Type 0 where
-  operand : j ≤ arity k → s ≡ s′
-  other : arity k < j → v ≡ v′
-
-alike-rows : {k a b c sa sb sc a′ b′ c′ sa′ sb′ sc′ : ℕ} → Alike k 1 a sa a′ sa′ → Alike k 2 b sb b′ sb′ → Alike k 3 c sc c′ sc′
-    → sortRow k a b c sa sb sc ≡ sortRow k a′ b′ c′ sa′ sb′ sc′
-alike-rows {k} {a} {b} {c} {sa} {sb} {sc} {a′} {b′} {c′} {sa′} {sb′} {sc′} p q r =
-    table k a b c sa sb sc ∙ rw (field p, field q, field r, sort p, sort q, sort r) (sym (table k a′ b′ c′ sa′ sb′ sc′))
-  where
-    field : {j v s v′ s′ : ℕ} → Alike k j v s v′ s′ → otherField k j v ≡ otherField k j v′
-    field {j} h = choose (leb j (arity k)) (λ _. refl) (λ e. h .other (leb-false j (arity k) e))
-
-    sort : {j v s v′ s′ : ℕ} → Alike k j v s v′ s′ → operandSort k j s ≡ operandSort k j s′
-    sort {j} h = choose (leb j (arity k)) (λ e. h .operand (leb-true j (arity k) e)) (λ _. refl)
+use Rattle.smtcomplete.specs.Facts.{Alike, alike-rows, sortAt, operand-of, own-row, has-sort}
 
 one-most : (b : Bool) → cond b 1 0 ≤ 1
 one-most true = omega arith
