@@ -33,7 +33,9 @@ use Rattle.export.specs.Values.{wide, foundSaid}
 use Rattle.smtwriter.specs.Written.{writtenOf}
 use Rattle.smtwriter.specs.declared.Written.{Written}
 use Rattle.smtwriter.specs.declared.Written.the-variants as written-as
-use Rattle.export.specs.Texts.{writtenSaid}
+use Rattle.smtreader.specs.declared.Reading.{Reading}
+use Rattle.smtreader.specs.declared.Reading.the-variants as reading-as
+use Rattle.export.specs.Texts.{writtenSaid, readSaid}
 
 -- Beside a number other than 0, k zeros; or a place and k zeros
 abbrev pub Zeros : ℕ → Said → Type 0
@@ -148,3 +150,9 @@ text-beside w n root room = way (writtenOf w n root room)
     way written-as.Room e = refl
     way written-as.NoRoot e = refl
     way written-as.Short e = refl
+
+-- WHAT A TEXT SAYS: a count of nodes stands beside 0, a place beside 41
+pub reading-beside : (a : Reading) → readSaid a .number ≡ 6 → readSaid a .words ≡ 0 ∷ []
+reading-beside (reading-as.Rows n) e = absurd (omega arith)
+reading-beside (reading-as.Stop p) e = absurd (omega arith)
+reading-beside reading-as.Room e = refl

@@ -3,7 +3,7 @@
 -- Each line cites the contract itself, as the toolchain has it of the source: `Post` is what the call's `ensures` claims, at its lifetimes κ and its arguments a,
 -- of an answer (r, s) and of the parameters at exit (x, y), of which a slice's words are its `now`
 use mathlib.Core.Path.{_≡_, refl, sym, ap, _∙_}
-use mathlib.Core.Bool.{Bool, cond}
+use mathlib.Core.Bool.{Bool, true, false, cond}
 use mathlib.Core.List.{List, []}
 use Prim.Native.Nat.{ℕ, _<_}
 use lib.Dec.{eqb}
@@ -39,11 +39,13 @@ use Rattle.smtwriter.specs.Written.{bytesAfter, Writes}
 use Rattle.smtwriter.specs.declared.Written.{Written}
 use Rattle.smtlive.specs.Apart.{choices-apart}
 use Rattle.smttokens.specs.Taken.{shown, state, one-token}
+use Rattle.smtreader.specs.Text.{one-reading}
 use Rattle.export.specs.Answers.{Said, Tells, ReadsRecord}
 use Rattle.export.specs.Lifts.{Lifted, Lifts}
 use Rattle.export.specs.Steps.{Stepped, Steps}
 use Rattle.export.specs.Values.{ReadsImage, WritesImage, ChecksNodes, EvaluatesNodes}
-use Rattle.export.specs.Texts.{WritesText}
+use Rattle.export.specs.Flat.{atLeast}
+use Rattle.export.specs.Texts.{Answers, WritesText, ReadsText}
 
 -- What a contract claims, at lifetimes, of arguments, an answer and the parameters at exit
 module _ {L : Type 0} {A R E : L → Type 0} (P : (κ : L) → A κ → R κ → E κ → Type 0) where
@@ -154,6 +156,22 @@ module _ {r s : ℕ} where
 
   texts : {w : List ℕ} {n root : ℕ} {text out l m l₂ m₂ : List ℕ} → WritesText w n root text out r l l₂ → WritesText w n root text out s m m₂ → (r ≡ s) × (l ≡ m) × (l₂ ≡ m₂)
   texts p q = let w = tells (p .told) (q .told) in (w .0, p .bytes ∙ sym (q .bytes), w .1)
+
+  answers : {x nodes out l m l₂ m₂ : List ℕ} → Answers x nodes out r l l₂ → Answers x nodes out s m m₂ → (r ≡ s) × (l ≡ m) × (l₂ ≡ m₂)
+  answers {x} {nodes} {out} {l} {m} p q =
+      let w = one-reading x nodes l m (p .says) (q .says) (p .read) (q .read) in
+      let z = tells (rw (w .0) at (p .told)) (q .told) in
+      (z .0, w .1, z .1)
+
+  readings : {x nodes out l m l₂ m₂ : List ℕ} → ReadsText x nodes out r l l₂ → ReadsText x nodes out s m m₂ → (r ≡ s) × (l ≡ m) × (l₂ ≡ m₂)
+  readings {out = out} {l} {m} {l₂} {m₂} p q = go (atLeast 1 out) refl
+    where
+      go : (b : Bool) → atLeast 1 out ≡ b → (r ≡ s) × (l ≡ m) × (l₂ ≡ m₂)
+      go true e = answers (p .answered e) (q .answered e)
+      go false e =
+          let h = p .short e in
+          let k = q .short e in
+          (h .0 ∙ sym (k .0), h .1 ∙ sym (k .1), h .2 ∙ sym (k .2))
 
 tables : {w : List ℕ} {n : ℕ} {r s : Verdict} {old l m : List ℕ} → Tables w n r old l → Tables w n s old m → (r ≡ s) × (l ≡ m)
 tables {w} {n} {old = old} p q = follows (λ (v : Verdict). tableAfter v w n old) (p .verdict, p .table) (q .verdict, q .table)
@@ -623,6 +641,11 @@ smttokens·take κ a r s x y p q =
     (choices-apart (state (shown (now (a .1 .0)) (now (a .1 .1 .0)) (now (a .1 .1 .1 .0)) (now (a .1 .1 .1 .1 .0))) (a .1 .1 .1 .1 .1 .0) (a .1 .1 .1 .1 .1 .1 .0)))
     r s (p .is [] []) (q .is [] [])
 
+-- smtreader
+
+pub smtreader·read : Determined₁ Rattle.smtreader.proofs.read.Reads.Post (λ κ x. now (x .1 .0))
+smtreader·read κ a r s x y = one-reading (now (a .0)) (now (a .1 .0)) (now (x .1 .0)) (now (y .1 .0)) r s
+
 -- answers
 
 pub answers·bit : Determined Rattle.answers.proofs.bit.Reads.Post
@@ -673,6 +696,12 @@ answers·text-number κ a r s x y = one
 pub answers·text-place : Determined Rattle.answers.proofs.smt.text_place.Reads.Post
 answers·text-place κ a r s x y = one
 
+pub answers·reading-number : Determined Rattle.answers.proofs.smt.reading_number.Reads.Post
+answers·reading-number κ a r s x y = one
+
+pub answers·reading-place : Determined Rattle.answers.proofs.smt.reading_place.Reads.Post
+answers·reading-place κ a r s x y = one
+
 -- export
 
 pub export·x87-classify : Determined₁ Rattle.export.proofs.x87_classify.Reads.Post (λ κ x. now (x .1 .0))
@@ -709,6 +738,9 @@ export·x87-evaluate κ a r s x y = evaluates
 
 pub export·x87-smt-write : Determined₂ Rattle.export.proofs.smt.x87_smt_write.Reads.Post (λ κ x. now (x .1 .1 .1 .0)) (λ κ x. now (x .1 .1 .1 .1 .0))
 export·x87-smt-write κ a r s x y = texts
+
+pub export·x87-smt-read : Determined₂ Rattle.export.proofs.smt.x87_smt_read.Reads.Post (λ κ x. now (x .1 .0)) (λ κ x. now (x .1 .1 .0))
+export·x87-smt-read κ a r s x y = readings
 
 -- writing
 

@@ -24,6 +24,7 @@ pub mod Covers
 pub mod Refused
 pub mod Calls
 pub mod Beside
+pub mod Texts
 pub mod Image
 pub mod Determined
 pub mod Cited

@@ -3,12 +3,12 @@
 -- That these are what the contracts of the calls claim is said in Cited
 use mathlib.Core.Path.{_≡_}
 use mathlib.Core.Bool.{Bool, true, false}
-use mathlib.Core.List.{List, [], _∷_}
-use Prim.Native.Nat.{ℕ, suc, _/_, _^_, _≤_, _<_}
+use mathlib.Core.List.{List, [], _∷_, _++_}
+use Prim.Native.Nat.{ℕ, suc, _*_, _/_, _^_, _≤_, _<_}
 use lib.Dec.{leb}
-use lib.ListN.{length, getD, take, replicate}
+use lib.ListN.{length, getD, take, drop, replicate}
 use denote.Ref.{now}
-use Rattle.lists.specs.Rows.{row, wrote}
+use Rattle.lists.specs.Rows.{row, wrote, roomOf}
 use Rattle.forms.specs.declared.Instruction.{Instruction}
 use Rattle.forms.specs.declared.Form.the-variants.{PushMemory, StoreMemory}
 use Rattle.forms.specs.declared.MemFormat.the-variants.{Float}
@@ -26,6 +26,7 @@ use Rattle.evaluator.specs.Within.{GivenFits}
 use Rattle.export.specs.Answers.{ReadsRecord, classified}
 use Rattle.export.specs.Lifts.{liftedOf}
 use Rattle.export.specs.Steps.{steppedOf}
+use Rattle.export.specs.Texts.{ReadsText}
 use Rattle.listing.specs.Run.{runOf}
 use Rattle.listing.specs.Listing.{textOf}
 use Rattle.agreement.specs.Runs.{Held, begun, answered, declines, called, ran}
@@ -45,6 +46,7 @@ use Rattle.agreement.specs.Widths.{OfOperand, widths}
 use Rattle.agreement.specs.Covers.{Effect-holds, effect-holds}
 use Rattle.agreement.specs.Refused.{refused}
 use Rattle.agreement.specs.Calls.{Call, makes, allHanded, inHand, calls-run}
+use Rattle.agreement.specs.Texts.{Means, means, read-back}
 use Rattle.agreement.specs.Declines.{Because, declines-so, declines-only}
 use Rattle.agreement.specs.Declines.Said.{says}
 use Rattle.sorts.specs.Check.{checkOf}
@@ -52,7 +54,7 @@ use Rattle.sorts.specs.declared.Verdict.the-variants.{Passed}
 use Rattle.needs.specs.Needed.{Needed, marks}
 use Rattle.needs.specs.Laws.{On, marks-needed}
 use Rattle.smttext.specs.Text as Text
-use Rattle.smttext.specs.Subset.{Says, InSubset, compact}
+use Rattle.smttext.specs.Subset.{Says, InSubset, rank, compact}
 use Rattle.viable.specs.Runs.{Stops, Goes}
 use Rattle.smtgrammar.specs.State.{State, start}
 use Rattle.smtgrammar.specs.Grammar.{Token, done, Reads}
@@ -187,3 +189,16 @@ theorem-19 = stops-there
 
 pub theorem-19-on : (σ : State) → Live σ → Goes Token done σ
 theorem-19-on = goes
+
+-- 20 WHAT THE CALL READS, in the words of the subset: 0 beside the count of a formula, which stands in front and passes the check, 41 beside the exact place, or 6;
+-- and what was written is read back as what the root needs
+pub theorem-20 : (x nodes out : List ℕ) (r : ℕ) (nodesLeft outLeft : List ℕ) → 1 ≤ length out → ReadsText x nodes out r nodesLeft outLeft
+    → Means x nodes r (getD outLeft 0 0) nodesLeft
+theorem-20 = means
+
+pub theorem-20-back : (w : List ℕ) (n root : ℕ) → checkOf w n ≡ Passed → root < n → ((j : ℕ) → getD w j 0 < 2 ^ 64)
+    → (nodes out : List ℕ) (r : ℕ) (nodesLeft outLeft : List ℕ) → 1 ≤ length out → rank (marks w root) (suc root) ≤ roomOf (length nodes)
+    → ReadsText (Text.textOf w root) nodes out r nodesLeft outLeft
+    → (r ≡ 0) × (getD outLeft 0 0 ≡ rank (marks w root) (suc root))
+    × (nodesLeft ≡ compact w (marks w root) (suc root) ++ drop (4 * rank (marks w root) (suc root)) nodes)
+theorem-20-back = read-back

@@ -1,12 +1,12 @@
 -- A node's sort out of the table, one turn of the loop that fills it, and what the loop comes to.
-use mathlib.Core.List.{List, [], _∷_, _++_, append-assoc}
+use mathlib.Core.List.{List, _++_, append-assoc}
 use mathlib.Core.Path.{_≡_, refl, sym, ap, _∙_}
-use Prim.Native.Nat.{ℕ, suc, _+_, _*_, _/_, _≤_, _<_}
+use Prim.Native.Nat.{ℕ, suc, _+_, _*_, _/_, _≤_, _<_, min}
 use native.Mathlib.Numerals.{add-one}
 use native.Mathlib.Omega.{arith}
 use borrow.Author.Tests.{le-leb, lt-leb}
-use lib.ListN.{length, getD, take, drop, set, length-take, length-append, length-drop}
-use lib.Seq.{take-suc-set, take-suc, drop-cons, set-at, length-take-le}
+use lib.ListN.{length, getD, take, drop, set, replicate, length-take, length-append, length-drop, length-replicate}
+use lib.Seq.{drop-cons, set-at, take-at}
 use Rattle.lists.specs.Rows.{roomOf}
 use Rattle.sorts.specs.Sorts.{sortRow}
 use Rattle.sorts.specs.Lists.{rowSort, sorts}
@@ -14,8 +14,9 @@ use Rattle.sorts.specs.Check.{checkOf}
 use Rattle.sorts.specs.Laws.{Passes, sorts-suc, length-sorts, fault-at, passed-room}
 use Rattle.sorts.specs.declared.Verdict.the-variants.{Passed, Fault, Room}
 use Rattle.sorts.specs.declared.Verdict.{Verdict}
-use Rattle.evaluator.specs.Inside.{Tabulated, ScanReady}
-use Rattle.evaluator.specs.Table.{Tables, tableAfter}
+use Rattle.evaluator.specs.Inside.{ScanReady}
+use Rattle.evaluator.specs.Table.{Tables}
+use Rattle.evaluator.specs.Laws.{table-checked, table-sorted}
 
 -- the sort of a node from the sorts looked up in a table whose first i entries are those of the earlier nodes
 pub row-from : (w t : List ℕ) (i r ra rb rc : ℕ) → take i t ≡ sorts w i
@@ -25,69 +26,52 @@ pub row-from : (w t : List ℕ) (i r ra rb rc : ℕ) → take i t ≡ sorts w i
 unfolding rowSort
 row-from w t i r ra rb rc e ea eb ec er = cc
 
--- the sort of node i is stored
-pub stored : (w t : List ℕ) (i r : ℕ) → i < length t → take i t ≡ sorts w i → r ≡ rowSort w i (sorts w i)
-    → take (i + 1) (set t i r) ≡ sorts w (i + 1)
-stored w t i r h e er = rw (sorts-suc, add-one, take-suc-set t i r h, e, er)
+-- a table at whose front stand the sorts of i nodes: its front, its length, and one sort more
+module _ (w t₀ t : List ℕ) (i : ℕ) (e : t ≡ sorts w i ++ drop i t₀) where
+  pub front : take i t ≡ sorts w i
+  front = rw e (take-at (sorts w i) (drop i t₀) i (length-sorts w i))
 
--- a table that holds the sorts of n nodes has an entry for each
-pub held : (w t : List ℕ) (n : ℕ) → take n t ≡ sorts w n → n ≤ length t
-held w t n e = omega (arith, length-take n t, length-sorts w n, ap length e)
+  pub long : i ≤ length t₀ → length t ≡ length t₀
+  long h = ap length e ∙ omega (arith, length-append (sorts w i) (drop i t₀), length-sorts w i, length-drop i t₀)
 
-never : _≡_ {A = ℕ} 0 1 → ⊥
-never t = omega arith
+  pub stored : (r : ℕ) → i < length t₀ → r ≡ rowSort w i (sorts w i) → set t i r ≡ sorts w (i + 1) ++ drop (i + 1) t₀
+  stored r h er =
+      rw (e, drop-cons t₀ i 0 h, set-at (sorts w i) (getD t₀ i 0) (drop (suc i) t₀) r i (length-sorts w i), sorts-suc, ← er, add-one, append-assoc)
 
--- the three ends of the loop: no room, a fault, all nodes
-module _ (w t : List ℕ) (n r : ℕ) (room : r ≡ roomOf (length w)) where
-  pub no-room : r < n → Tabulated w n Room t
-  unfolding checkOf
-  no-room h = record { verdict = rw (← room, lt-leb _ _ h); table = λ p. let z : _≡_ {A = ℕ} 0 1 = cc in absurd (never z) }
+-- the ends of the loop: no room in the table, none in the list, a fault, all nodes
+module _ (w t₀ : List ℕ) (n : ℕ) where
+  pub no-table : length t₀ < n → Tables w n Room t₀ t₀
+  no-table h = record { verdict = rw (lt-leb n (length t₀) h); table = refl }
 
-  pub faulty : (i : ℕ) → n ≤ r → i < n → Passes w i → rowSort w i (sorts w i) ≡ 0 → Tabulated w n (Fault i) t
-  unfolding checkOf
-  faulty i h k p e =
-      record {
-        verdict = rw (← room, le-leb _ _ h) (sym (fault-at w n i k p e));
-        table = λ p. let z : _≡_ {A = ℕ} 0 1 = cc in absurd (never z);
-      }
+  module _ (r : ℕ) (room : r ≡ roomOf (length w)) (enough : n ≤ length t₀) where
+    pub no-room : r < n → Tables w n Room t₀ t₀
+    unfolding checkOf
+    no-room h = record { verdict = rw (le-leb n (length t₀) enough, ← room, lt-leb n r h); table = refl }
 
-  pub sorted : (i : ℕ) → n ≤ r → i ≡ n → Passes w i → take i t ≡ sorts w i → Tabulated w n Passed t
-  unfolding checkOf
-  sorted i h k p e = record { verdict = rw (← room, le-leb _ _ h) (sym (rw k at p)); table = λ _. rw k at e }
+    pub faulty : (t : List ℕ) (i : ℕ) → n ≤ r → i < n → Passes w i → rowSort w i (sorts w i) ≡ 0 → t ≡ sorts w i ++ drop i t₀ → Tables w n (Fault i) t₀ t
+    unfolding checkOf
+    faulty t i h k p z e =
+        record { verdict = rw (le-leb n (length t₀) enough, ← room, le-leb n r h) (sym (fault-at w n i k p z)); table = e }
+
+    pub sorted : (t : List ℕ) (i : ℕ) → n ≤ r → i ≡ n → Passes w i → t ≡ sorts w i ++ drop i t₀ → Tables w n Passed t₀ t
+    unfolding checkOf
+    sorted t i h k p e =
+        record { verdict = rw (le-leb n (length t₀) enough, ← room, le-leb n r h) (sym (rw k at p)); table = rw k at e }
+
+-- a table of 65,536 entries is long enough for any count
+pub enough : (n : ℕ) → min n 65535 ≤ length (replicate {A = ℕ} 65536 0)
+enough n = omega (arith, length-replicate {A = ℕ} 65536 0)
 
 -- the table of a list that passes is ready for the scan
-pub scanned : (w g t : List ℕ) (n : ℕ) (v : Verdict) → Tabulated w n v t → v ≡ Passed → n ≤ length g / 2 → ScanReady w g t n
+pub scanned : (w g t₀ t : List ℕ) (n : ℕ) (v : Verdict) → min n 65535 ≤ length t₀ → Tables w n v t₀ t → v ≡ Passed → n ≤ length g / 2 → ScanReady w g t n
 unfolding roomOf
-scanned w g t n v x p h =
-    let r = passed-room w n (sym (x .verdict) ∙ p) .room in
+scanned w g t₀ t n v enough x p h =
+    let r = passed-room w n (sym (table-checked enough x) ∙ p) .room in
+    let s = table-sorted enough x p in
     record {
       words = omega (arith, r);
       gave = omega arith;
       few = omega (arith, r);
-      long = held w t n (x .table p);
-      table = x .table p;
+      long = omega (arith, length-take n t, length-sorts w n, ap length s);
+      table = s;
     }
-
--- entries copied one after the other: the first i, one more, and how long the table stays
-pub copied : (s t t₀ : List ℕ) (i : ℕ) → i < length s → i < length t₀ → t ≡ take i s ++ drop i t₀ → set t i (getD s i 0) ≡ take (i + 1) s ++ drop (i + 1) t₀
-copied s t t₀ i h k e =
-    rw (e, drop-cons t₀ i 0 k, set-at (take i s) (getD t₀ i 0) (drop (suc i) t₀) (getD s i 0) i (length-take-le i s (omega arith)), add-one, take-suc s i 0 h, append-assoc (take i s) (getD s i 0 ∷ []) (drop (suc i) t₀))
-
-pub copied-long : (s t t₀ : List ℕ) (i : ℕ) → i ≤ length s → i ≤ length t₀ → t ≡ take i s ++ drop i t₀ → length t ≡ length t₀
-copied-long s t t₀ i h k e = ap length e ∙ omega (arith, length-append (take i s) (drop i t₀), length-take-le i s h, length-drop i t₀)
-
--- the table of a list that passes, copied
-pub filled : (w s t₀ t : List ℕ) (n : ℕ) (v : Verdict) → 65535 ≤ length t₀ → Tabulated w n v s → v ≡ Passed → t ≡ take n s ++ drop n t₀ → Tables w n Passed t₀ t
-filled w s t₀ t n v h x p e = record { verdict = rw (le-leb 65535 (length t₀) h) (sym p ∙ x .verdict); table = rw (← x .table p) e }
-
--- .. and of one that does not
-pub refused : (w s t : List ℕ) (n : ℕ) (v u : Verdict) → 65535 ≤ length t → Tabulated w n v s → v ≡ u → t ≡ tableAfter u w n t → Tables w n u t t
-refused w s t n v u h x p e = record { verdict = rw (le-leb 65535 (length t) h) (sym p ∙ x .verdict); table = e }
-
-pub no-table : (w t : List ℕ) (n : ℕ) → length t < 65535 → Tables w n Room t t
-no-table w t n h = record { verdict = rw (lt-leb 65535 (length t) h); table = refl }
-
--- a table of 65,535 entries has one for each node of a list that passes
-pub room-for : (w s : List ℕ) (n m : ℕ) (v : Verdict) → 65535 ≤ m → Tabulated w n v s → v ≡ Passed → (n ≤ m) × (n ≤ length s)
-unfolding roomOf
-room-for w s n m v h x p = let r = passed-room w n (sym (x .verdict) ∙ p) .room in (omega arith, held w s n (x .table p))

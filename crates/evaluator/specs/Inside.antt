@@ -4,17 +4,9 @@ use mathlib.Core.List.{List}
 use Prim.Native.Nat.{ℕ, _+_, _*_, _≤_, _<_}
 use lib.ListN.{length, getD, take}
 use Rattle.sorts.specs.Lists.{rowSort, sorts}
-use Rattle.sorts.specs.Check.{checkOf}
 use Rattle.sorts.specs.Laws.{Passes}
-use Rattle.sorts.specs.declared.Verdict.{Verdict}
-use Rattle.sorts.specs.declared.Verdict.the-variants.{Passed}
 use Rattle.evaluator.specs.Lists.{vals, flat}
 use Rattle.evaluator.specs.Within.{AllFit, GivenFits}
-
--- the check of n nodes, and the table that it leaves where they pass
-pub record Tabulated (w : List ℕ) (n : ℕ) (r : Verdict) (t : List ℕ) : Type 0 where
-  pub verdict : r ≡ checkOf w n
-  pub table : r ≡ Passed → take n t ≡ sorts w n
 
 -- node i, in a table whose first i + 1 entries are sorts, and a column whose first i entries are values
 pub record NodeReady (w g t col : List ℕ) (i : ℕ) : Type 0 where

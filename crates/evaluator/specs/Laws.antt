@@ -1,23 +1,27 @@
--- What holds of the values of a list: each fits its sort, rows that are added leave them as they were, and a list that passes evaluates to its end.
+-- What holds of the values of a list: each fits its sort, rows that are added leave them as they were, and a list that passes evaluates to its end; what a table of sorts says.
 use mathlib.Core.Bool.{Bool, true, false, cond}
 use mathlib.Core.Path.{_≡_, refl, sym, subst, _∙_, ap}
 use mathlib.Core.List.{List, [], _∷_, _++_}
-use Prim.Native.Nat.{ℕ, zero, suc, _+_, _-_, _*_, _/_, _^_, _≤_, _<_}
+use Prim.Native.Nat.{ℕ, zero, suc, _+_, _-_, _*_, _/_, _^_, _≤_, _<_, min}
 use native.Mathlib.Numerals.{add-one}
 use native.Mathlib.Omega.{arith}
 use native.Mathlib.Decide.{decLt}
-use lib.Dec.{lit<}
-use lib.ListN.{length, getD, length-append}
-use borrow.Author.Tests.{lt-ltb, ltb-true, le-leb}
+use lib.Dec.{leb, lit<}
+use lib.ListN.{length, getD, take, drop, length-append}
+use lib.Seq.{take-at}
+use borrow.Author.Tests.{lt-ltb, ltb-true, le-leb, lt-leb, leb-false}
+use Rattle.lists.specs.Rows.{roomOf}
 use Rattle.sorts.specs.Lists.{field, rowSort, sorts}
 use Rattle.sorts.specs.Laws.{length-sorts, Passes, passed-sorted, passes-less, passed-room, agree}
 use Rattle.sorts.specs.Check.{checkOf}
-use Rattle.sorts.specs.declared.Verdict.the-variants.{Passed}
+use Rattle.sorts.specs.declared.Verdict.{Verdict}
+use Rattle.sorts.specs.declared.Verdict.the-variants.{Passed, Room}
 use Rattle.evaluator.specs.Value.{widthOf, isGiven, held, computed}
 use Rattle.evaluator.specs.Lists.{pairAt, rowValue, vals, fitsAt, wideFrom}
 use Rattle.evaluator.specs.Outcome.{outcomeOf, numberOf}
 use Rattle.evaluator.specs.Within.{AllFit, GivenFits}
 use Rattle.evaluator.specs.Fits.{held-fits, computed-fits}
+use Rattle.evaluator.specs.Table.{Tables}
 use Rattle.evaluator.specs.declared.Outcome.{Outcome}
 use Rattle.evaluator.specs.declared.Outcome.the-variants.{Done, TooWide}
 
@@ -150,3 +154,16 @@ evaluates w g n m p hg hm f =
     let e : outcomeOf w n g m ≡ Done =
     rw (le-leb n (length g / 2) hg, le-leb n (m / 2) hm, p) (fits-done w g n n 0 (omega arith) f) in
     record { ends = ap numberOf e; fits = all-fit w g n (passed-room w n p .passes) f }
+
+-- what a table says that has an entry for each of n nodes, or 65,535
+module _ {w t₀ t : List ℕ} {n : ℕ} {v : Verdict} (enough : min n 65535 ≤ length t₀) (x : Tables w n v t₀ t) where
+  pub table-checked : v ≡ checkOf w n
+  unfolding checkOf roomOf
+  table-checked = by (leb n (length t₀)) refl (x .verdict)
+    where
+      by : (b : Bool) → leb n (length t₀) ≡ b → v ≡ cond b (checkOf w n) Room → v ≡ checkOf w n
+      by true p q = q
+      by false p q = rw (lt-leb n (roomOf (length w)) (let h = leb-false n (length t₀) p in omega arith)) q
+
+  pub table-sorted : v ≡ Passed → take n t ≡ sorts w n
+  table-sorted e = rw (rw e at (x .table)) (take-at (sorts w n) (drop n t₀) n (length-sorts w n))

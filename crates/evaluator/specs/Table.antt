@@ -1,4 +1,4 @@
--- The sorts of a list that passes, in a lent table.
+-- The sorts of a list's nodes, in a lent table.
 use mathlib.Core.Path.{_≡_}
 use mathlib.Core.Bool.{cond}
 use mathlib.Core.List.{List, _++_}
@@ -10,13 +10,13 @@ use Rattle.sorts.specs.Check.{checkOf}
 use Rattle.sorts.specs.declared.Verdict.{Verdict}
 use Rattle.sorts.specs.declared.Verdict.the-variants.{Passed, Fault, Room}
 
--- the table after it: the sorts of the n nodes and what stood beyond them, or as it was
+-- the table after it: the sorts of the n nodes, or of those before the fault, and what stood beyond them; as it was where there is no room
 abbrev pub tableAfter : Verdict → List ℕ → ℕ → List ℕ → List ℕ
 tableAfter Passed w n t = sorts w n ++ drop n t
-tableAfter (Fault i) w n t = t
+tableAfter (Fault i) w n t = sorts w i ++ drop i t
 tableAfter Room w n t = t
 
--- the check of n nodes; a table of fewer than 65,535 entries has no room
+-- the check of n nodes; a table of fewer than n entries has no room
 pub record Tables (w : List ℕ) (n : ℕ) (r : Verdict) (old new : List ℕ) : Type 0 where
-  pub verdict : r ≡ cond (leb 65535 (length old)) (checkOf w n) Room
+  pub verdict : r ≡ cond (leb n (length old)) (checkOf w n) Room
   pub table : new ≡ tableAfter r w n old

@@ -343,7 +343,7 @@ pub fn check(nodes: &[u64], count: usize) -> Verdict
     ensures { λ r. ⌜ r ≡ checkOf (now (nodes .entry)) count ⌝ }
 {
     let mut t = [0u16; 65536];
-    table::tabulate(nodes, count, &mut t)
+    table::fill(nodes, count, &mut t)
 }
 
 // The values of the first `count` nodes into the column, or what stands in the way.
@@ -357,7 +357,7 @@ pub fn evaluate(nodes: &[u64], count: usize, given: &[u64], column: &mut [u64]) 
         return Outcome::Room;
     }
     let mut t = [0u16; 65536];
-    match table::tabulate(nodes, count, &mut t) {
+    match table::fill(nodes, count, &mut t) {
         Verdict::Room => Outcome::Room,
         Verdict::Fault(i) => Outcome::Fault(i),
         Verdict::Passed => match first_wide(nodes, count, given, &t) {

@@ -1,11 +1,8 @@
 // The table of sorts of a list's nodes, one entry a node.
 ghost use mathlib.Core.Path.{_≡_};
 ghost use Prim.Native.Nat.{_+_, _*_, _≤_};
-ghost use mathlib.Core.List.{_++_};
-ghost use lib.ListN.{length, getD, take, drop};
+ghost use lib.ListN.{length, getD, take};
 ghost use Rattle.sorts.specs.Lists.{sorts, rowSort};
-ghost use Rattle.sorts.specs.Check.{checkOf};
-ghost use Rattle.evaluator.specs.Inside.{Tabulated};
 ghost use Rattle.evaluator.specs.Table.{Tables};
 use sorts::Verdict;
 
@@ -30,11 +27,13 @@ fn node_sort(nodes: &[u64], t: &[u16], i: usize) -> u64
     sorts::sort_of(k, a, b, c, at(t, i, a), at(t, i, b), at(t, i, c))
 }
 
-// The sorts of the first `count` nodes into the table, up to the first node without one.
-pub(crate) fn tabulate(nodes: &[u64], count: usize, t: &mut [u16]) -> Verdict
-    requires { ⌜ 65535 ≤ length (now t) ⌝ }
-    ensures { λ r. ⌜ Tabulated (now (nodes .entry)) count r (now (t .exit)) ⌝ }
+// The sorts of the first `count` nodes to the front of a lent table, up to the first node without one; nothing where the list or the table has no room for them.
+pub fn fill(nodes: &[u64], count: usize, t: &mut [u16]) -> Verdict
+    ensures { λ r. ⌜ Tables (now (nodes .entry)) count r (now (t .entry)) (now (t .exit)) ⌝ }
 {
+    if t.len() < count {
+        return Verdict::Room;
+    }
     if (lists::room(nodes.len()) as usize) < count {
         return Verdict::Room;
     }
@@ -48,34 +47,4 @@ pub(crate) fn tabulate(nodes: &[u64], count: usize, t: &mut [u16]) -> Verdict
         i += 1;
     }
     Verdict::Passed
-}
-
-// Copies the first n entries of a table to the front of another one.
-fn copy(t: &mut [u16], from: &[u16], n: usize)
-    requires { ⌜ (n ≤ length (now t)) × (n ≤ length (now from)) ⌝ }
-    ensures { λ _. ⌜ now (t .exit) ≡ take n (now (from .entry)) ++ drop n (now (t .entry)) ⌝ }
-{
-    let mut i = 0;
-    while i < n {
-        t[i] = from[i];
-        i += 1;
-    }
-}
-
-// The sorts of the first `count` nodes to the front of a lent table of at least 65,535 entries, or what stands in the way.
-pub fn fill(nodes: &[u64], count: usize, t: &mut [u16]) -> Verdict
-    ensures { λ r. ⌜ Tables (now (nodes .entry)) count r (now (t .entry)) (now (t .exit)) ⌝ }
-{
-    if t.len() < 65535 {
-        return Verdict::Room;
-    }
-    let mut own = [0u16; 65536];
-    match tabulate(nodes, count, &mut own) {
-        Verdict::Room => Verdict::Room,
-        Verdict::Fault(i) => Verdict::Fault(i),
-        Verdict::Passed => {
-            copy(t, &own, count);
-            Verdict::Passed
-        }
-    }
 }

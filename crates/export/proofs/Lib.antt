@@ -1,3 +1,4 @@
 pub mod Places
 pub mod Calls
+pub mod Texts
 pub mod Lifting

@@ -4,7 +4,7 @@ use mathlib.Core.Bool.{Bool, true, false, cond, _&&_, _||_}
 use mathlib.Core.List.{List, []}
 use Prim.Native.Nat.{ℕ, suc, _+_, _-_, _*_, _^_, _≤_, _<_}
 use native.Mathlib.Omega.{arith}
-use borrow.Author.Tests.{eqb-true}
+use borrow.Author.Tests.{eqb-true, leb-true, leb-false}
 use lib.Dec.{leb, ltb, eqb}
 use lib.ListN.{getD}
 use lib.Seq.{getD-take, getD-at}
@@ -16,54 +16,49 @@ use Rattle.needs.specs.Laws.{word}
 use Rattle.needs.specs.Passing.{earlier, operand}
 use Rattle.smttext.specs.Names.{kindAt}
 
--- two rows of a table that agree wherever the kind is theirs
-pick : (k j x y x′ y′ : ℕ) → (k ≡ j → x ≡ x′) → y ≡ y′ → cond (eqb k j) x y ≡ cond (eqb k j) x′ y′
-pick k j x y x′ y′ f g = go (eqb k j) refl
-  where
-    go : (t : Bool) → eqb k j ≡ t → cond t x y ≡ cond t x′ y′
-    go true e = f (eqb-true k j e)
-    go false e = g
+-- two choices by one test
+choose : (t : Bool) {x x′ y y′ : ℕ} → (t ≡ true → x ≡ x′) → (t ≡ false → y ≡ y′) → cond t x y ≡ cond t x′ y′
+choose true f g = f refl
+choose false f g = g refl
 
--- the table looks at the sorts of operands alone
-sort-operands : (k a b c sa sb sc sa′ sb′ sc′ : ℕ) → (1 ≤ arity k → sa ≡ sa′) → (2 ≤ arity k → sb ≡ sb′) → (3 ≤ arity k → sc ≡ sc′)
-    → sortRow k a b c sa sb sc ≡ sortRow k a b c sa′ sb′ sc′
+-- field j of a row of kind k where it is no operand, and its sort where it is one; else 0
+abbrev otherField : ℕ → ℕ → ℕ → ℕ
+otherField k j v = cond (leb j (arity k)) 0 v
+
+abbrev operandSort : ℕ → ℕ → ℕ → ℕ
+operandSort k j s = cond (leb j (arity k)) s 0
+
+-- a row of the table, where the kind is its own
+pick : (k j : ℕ) {x x′ y y′ : ℕ} → (k ≡ j → x ≡ x′) → y ≡ y′ → cond (eqb k j) x y ≡ cond (eqb k j) x′ y′
+pick k j f e = choose (eqb k j) (λ q. f (eqb-true k j q)) (λ _. e)
+
+-- the table looks at the sorts of operands, and at the fields that are none
+table : (k a b c sa sb sc : ℕ) → sortRow k a b c sa sb sc ≡ sortRow k (otherField k 1 a) (otherField k 2 b) (otherField k 3 c) (operandSort k 1 sa) (operandSort k 2 sb) (operandSort k 3 sc)
 unfolding sortRow arity
-sort-operands k a b c sa sb sc sa′ sb′ sc′ f g h =
-    pick k 1 _ _ _ _ (λ _. refl) (pick k 2 _ _ _ _ (λ _. refl) (pick k 3 _ _ _ _ (λ _. refl)
-    (pick k 4 _ _ _ _ (λ _. refl) (pick k 5 _ _ _ _ (λ _. refl) (pick k 6 _ _ _ _ (λ _. refl)
-    (pick k 7 _ _ _ _ (λ e. rw (fa 7 e (omega arith), fb 7 e (omega arith)))
-    (pick k 8 _ _ _ _ (λ e. rw (fa 8 e (omega arith), fb 8 e (omega arith)))
-    (pick k 9 _ _ _ _ (λ e. rw (fa 9 e (omega arith), fb 9 e (omega arith)))
-    (pick k 10 _ _ _ _ (λ e. rw (fa 10 e (omega arith), fb 10 e (omega arith)))
-    (pick k 11 _ _ _ _ (λ e. rw (fa 11 e (omega arith), fb 11 e (omega arith)))
-    (pick k 12 _ _ _ _ (λ e. rw (fa 12 e (omega arith)))
-    (pick k 13 _ _ _ _ (λ e. rw (fa 13 e (omega arith), fb 13 e (omega arith), fc 13 e (omega arith)))
-    (pick k 14 _ _ _ _ (λ e. rw (fa 14 e (omega arith)))
-    (pick k 15 _ _ _ _ (λ e. rw (fa 15 e (omega arith), fb 15 e (omega arith)))
-    (pick k 16 _ _ _ _ (λ e. rw (fa 16 e (omega arith), fb 16 e (omega arith)))
-    (pick k 17 _ _ _ _ (λ e. rw (fa 17 e (omega arith), fb 17 e (omega arith)))
-    (pick k 18 _ _ _ _ (λ e. rw (fa 18 e (omega arith), fb 18 e (omega arith)))
-    (pick k 19 _ _ _ _ (λ e. rw (fa 19 e (omega arith), fb 19 e (omega arith)))
-    (pick k 20 _ _ _ _ (λ e. rw (fa 20 e (omega arith), fb 20 e (omega arith)))
-    (pick k 21 _ _ _ _ (λ e. rw (fa 21 e (omega arith), fb 21 e (omega arith)))
-    (pick k 22 _ _ _ _ (λ e. rw (fa 22 e (omega arith)))
-    (pick k 23 _ _ _ _ (λ e. rw (fa 23 e (omega arith)))
-    (pick k 24 _ _ _ _ (λ e. rw (fa 24 e (omega arith)))
-    (pick k 25 _ _ _ _ (λ e. rw (fa 25 e (omega arith)))
-    (pick k 26 _ _ _ _ (λ e. rw (fa 26 e (omega arith)))
-    (pick k 27 _ _ _ _ (λ e. rw (fa 27 e (omega arith)))
-    (pick k 28 _ _ _ _ (λ e. rw (fa 28 e (omega arith)))
-    (pick k 29 _ _ _ _ (λ e. rw (fa 29 e (omega arith)))
+table k a b c sa sb sc =
+    pick k 1 (λ e. rw e) (pick k 2 (λ e. rw e) (pick k 3 (λ e. rw e) (pick k 4 (λ e. rw e) (pick k 5 (λ e. rw e)
+    (pick k 6 (λ e. rw e) (pick k 7 (λ e. rw e) (pick k 8 (λ e. rw e) (pick k 9 (λ e. rw e) (pick k 10 (λ e. rw e)
+    (pick k 11 (λ e. rw e) (pick k 12 (λ e. rw e) (pick k 13 (λ e. rw e) (pick k 14 (λ e. rw e) (pick k 15 (λ e. rw e)
+    (pick k 16 (λ e. rw e) (pick k 17 (λ e. rw e) (pick k 18 (λ e. rw e) (pick k 19 (λ e. rw e) (pick k 20 (λ e. rw e)
+    (pick k 21 (λ e. rw e) (pick k 22 (λ e. rw e) (pick k 23 (λ e. rw e) (pick k 24 (λ e. rw e) (pick k 25 (λ e. rw e)
+    (pick k 26 (λ e. rw e) (pick k 27 (λ e. rw e) (pick k 28 (λ e. rw e) (pick k 29 (λ e. rw e)
     refl))))))))))))))))))))))))))))
+
+-- place j of two rows of kind k: operands of one sort, or one field
+pub record Alike (k j v s v′ s′ : ℕ) : Type 0 where
+  pub operand : j ≤ arity k → s ≡ s′
+  pub other : arity k < j → v ≡ v′
+
+pub alike-rows : {k a b c sa sb sc a′ b′ c′ sa′ sb′ sc′ : ℕ} → Alike k 1 a sa a′ sa′ → Alike k 2 b sb b′ sb′ → Alike k 3 c sc c′ sc′
+    → sortRow k a b c sa sb sc ≡ sortRow k a′ b′ c′ sa′ sb′ sc′
+alike-rows {k} {a} {b} {c} {sa} {sb} {sc} {a′} {b′} {c′} {sa′} {sb′} {sc′} p q r =
+    table k a b c sa sb sc ∙ rw (field p, field q, field r, sort p, sort q, sort r) (sym (table k a′ b′ c′ sa′ sb′ sc′))
   where
-    fa : (j : ℕ) → k ≡ j → 1 ≤ arity j → sa ≡ sa′
-    fa j e l = f (rw e l)
+    field : {j v s v′ s′ : ℕ} → Alike k j v s v′ s′ → otherField k j v ≡ otherField k j v′
+    field {j} h = choose (leb j (arity k)) (λ _. refl) (λ e. h .other (leb-false j (arity k) e))
 
-    fb : (j : ℕ) → k ≡ j → 2 ≤ arity j → sb ≡ sb′
-    fb j e l = g (rw e l)
-
-    fc : (j : ℕ) → k ≡ j → 3 ≤ arity j → sc ≡ sc′
-    fc j e l = h (rw e l)
+    sort : {j v s v′ s′ : ℕ} → Alike k j v s v′ s′ → operandSort k j s ≡ operandSort k j s′
+    sort {j} h = choose (leb j (arity k)) (λ e. h .operand (leb-true j (arity k) e)) (λ _. refl)
 
 -- of a row of the table: its test holds where the kind is its own
 row : (P : ℕ → ℕ → Type 0) (k j : ℕ) (ok : Bool) (s rest : ℕ) → (ok ≡ true → P j s) → ((rest ≡ 0 → ⊥) → P k rest)
@@ -153,10 +148,10 @@ module _ (w : List ℕ) (n : ℕ) (passes : Passes w n) where
   unfolding rowSort
   own-row j h =
       own j h
-      ∙ sort-operands (kindAt w j) (field w j 1) (field w j 2) (field w j 3) _ _ _ _ _ _
-      (λ l. before j _ (omega arith) (operand-of j 0 h l .earlier))
-      (λ l. before j _ (omega arith) (operand-of j 1 h l .earlier))
-      (λ l. before j _ (omega arith) (operand-of j 2 h l .earlier))
+      ∙ alike-rows (place 0) (place 1) (place 2)
+    where
+      place : (p : ℕ) → Alike (kindAt w j) (suc p) (field w j (suc p)) (getD (sorts w j) (field w j (suc p)) 0) (field w j (suc p)) (sortAt w n (field w j (suc p)))
+      place p = record { operand = λ l. before j _ (omega arith) (operand-of j p h l .earlier); other = λ _. refl }
 
   pub has-sort : (j : ℕ) → j < n → sortAt w n j ≡ 0 → ⊥
   has-sort j h e = sorted j h (sym (own j h) ∙ e)

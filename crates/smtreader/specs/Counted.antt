@@ -4,6 +4,7 @@ use mathlib.Core.Bool.{Bool, true, false, cond, _&&_}
 use Prim.Native.Nat.{ℕ, zero, suc, _+_, _≤_, _<_}
 use native.Mathlib.Omega.{arith}
 use borrow.Author.Tests.{eq-eqb, ne-eqb}
+use mathlib.Core.List.{List}
 use lib.Dec.{leb, ltb, eqb}
 use lib.ListN.{length, getD, replicate}
 use lib.Seq.{getD-set-same, getD-set-other}
@@ -14,6 +15,9 @@ use Rattle.smtgrammar.specs.Rows.{there, rankAt}
 use Rattle.smtgrammar.specs.Next.{entered, obliged, declared, defined, asserted, termed, kindOf, secondField, thirdField, operand₀, operand₁, word, opened, digit, begun, numeral, nextAt}
 use Rattle.smtgrammar.specs.declared.Place.{Place}
 use Rattle.smtgrammar.specs.declared.Line.{Line}
+use Rattle.viable.specs.Runs.{Runs, end, on}
+use Rattle.smtgrammar.specs.Grammar.{Token, done, Reads}
+use Rattle.smtsound.specs.Steps.{kept-on, sound-start}
 use Rattle.smtsound.specs.Tables.{kindIn, Is, same?}
 use Rattle.smtsound.specs.Nodes.{Nodes}
 use Rattle.smtsound.specs.Lines.{Sound, Lined, at0, at1, at2, at3, at4, at5, at6, at7, at8, at9, at10, at11, at12, at13, at14, at15, Declares, Defines, Numbered, Worded, Kinded, Paired}
@@ -195,3 +199,12 @@ zeros (suc n) (suc i) = zeros n i
 
 pub counted-start : Counted start
 counted-start = sym (blank (start .tables) 65535 (zeros 65536))
+
+-- .. and so at the end of each run
+through : (σ ω : State) (x : List ℕ) → Sound σ → Counted σ → Runs Token done σ x ω → Counted ω
+through σ ω x s c (end d) = c
+through σ ω x s c (on l u q m r) =
+    through _ ω u (kept-on σ _ l s m) (rw (m .to) (counted-next σ (m .value) s c)) r
+
+pub counted-reads : (x : List ℕ) (ω : State) → Reads x ω → ω .place .count ≡ rankAt (ω .tables) 65535
+counted-reads x ω = through start ω x sound-start counted-start

@@ -4,14 +4,12 @@ mod terms;
 ghost use mathlib.Core.Path.{_≡_};
 ghost use mathlib.Core.Bool.{cond, _&&_};
 ghost use mathlib.Core.List.{[]};
+ghost use Prim.Native.Nat.{_≤_};
 ghost use lib.ListN.{getD, take};
-ghost use Rattle.sorts.specs.Lists.{sorts};
-ghost use Rattle.sorts.specs.Check.{checkOf};
-ghost use Rattle.sorts.specs.declared.Verdict.the-variants.{Passed};
 ghost use Rattle.writing.specs.Put.{Put};
 ghost use Rattle.smttext.specs.Names.{kindAt, sortText};
 ghost use Rattle.smttext.specs.Text.{declaration, definition, assertion, inPart, lineIn, on, part};
-ghost use Rattle.smtwriter.specs.Inside.{partsOf, Fits};
+ghost use Rattle.smtwriter.specs.Inside.{partsOf, Fits, Enough, Sorted, Clear};
 ghost use Rattle.smtwriter.specs.Written.{Writes};
 use sorts::Verdict;
 
@@ -178,28 +176,70 @@ fn fitted(nodes: &[u64], t: &[u16], m: &[u8], n: usize, out: &mut [u8]) -> Writt
     Written::Short
 }
 
-// Writes the text of a root of a list that passes, over the table of its sorts.
-fn rooted(nodes: &[u64], t: &[u16], count: usize, root: usize, out: &mut [u8]) -> Written
-    requires { ⌜ (checkOf (now nodes) count ≡ Passed) × (take count (now t) ≡ sorts (now nodes) count) ⌝ }
+// Writes the text of a root of a list that passes, over the table of its sorts and a clear column of marks.
+fn rooted(
+    nodes: &[u64],
+    count: usize,
+    root: usize,
+    t: &[u16],
+    m: &mut [u8],
+    out: &mut [u8],
+) -> Written
+    requires { ⌜ Sorted (now nodes) count (now t) × Clear count (now m) ⌝ }
     ensures { λ r. ⌜ Writes (now (nodes .entry)) count root r (now (out .entry)) (now (out .exit)) ⌝ }
 {
     if count <= root {
         return Written::NoRoot;
     }
+    needs::mark(nodes, root, m);
+    fitted(nodes, t, &*m, root + 1, out)
+}
+
+// Writes the text of a root, over a lent table for the sorts and a clear column for the marks.
+fn written_in(
+    nodes: &[u64],
+    count: usize,
+    root: usize,
+    t: &mut [u16],
+    m: &mut [u8],
+    out: &mut [u8],
+) -> Written
+    requires { ⌜ Enough count (now t) × Clear count (now m) ⌝ }
+    ensures { λ r. ⌜ Writes (now (nodes .entry)) count root r (now (out .entry)) (now (out .exit)) ⌝ }
+{
+    let v = evaluator::table::fill(nodes, count, t);
+    match v {
+        Verdict::Passed => rooted(nodes, count, root, &*t, m, out),
+        Verdict::Fault(i) => Written::Fault(i),
+        Verdict::Room => Written::Room,
+    }
+}
+
+// Writes the text of a root of few nodes, over short tables.
+fn of_few(nodes: &[u64], count: usize, root: usize, out: &mut [u8]) -> Written
+    requires { ⌜ count ≤ 1024 ⌝ }
+    ensures { λ r. ⌜ Writes (now (nodes .entry)) count root r (now (out .entry)) (now (out .exit)) ⌝ }
+{
+    let mut t = [0u16; 1024];
+    let mut m = [0u8; 1024];
+    written_in(nodes, count, root, &mut t, &mut m, out)
+}
+
+// Writes the text of a root of any number of nodes.
+fn of_many(nodes: &[u64], count: usize, root: usize, out: &mut [u8]) -> Written
+    ensures { λ r. ⌜ Writes (now (nodes .entry)) count root r (now (out .entry)) (now (out .exit)) ⌝ }
+{
+    let mut t = [0u16; 65536];
     let mut m = [0u8; 65536];
-    needs::mark(nodes, root, &mut m);
-    fitted(nodes, t, &m, root + 1, out)
+    written_in(nodes, count, root, &mut t, &mut m, out)
 }
 
 // Writes the text of a root of the first `count` nodes, or nothing where the answer is another one.
 pub fn write(nodes: &[u64], count: usize, root: usize, out: &mut [u8]) -> Written
     ensures { λ r. ⌜ Writes (now (nodes .entry)) count root r (now (out .entry)) (now (out .exit)) ⌝ }
 {
-    let mut t = [0u16; 65536];
-    let v = evaluator::table::fill(nodes, count, &mut t);
-    match v {
-        Verdict::Passed => rooted(nodes, &t, count, root, out),
-        Verdict::Fault(i) => Written::Fault(i),
-        Verdict::Room => Written::Room,
+    if count <= 1024 {
+        return of_few(nodes, count, root, out);
     }
+    of_many(nodes, count, root, out)
 }

@@ -1,18 +1,17 @@
-use Prim.Native.Nat.{ℕ}
-use native.Mathlib.Omega.{arith}
-use lib.ListN.{length-replicate}
+use Rattle.evaluator.specs.Laws.{table-checked}
+use Rattle.evaluator.proofs.Filled.{enough}
 use borrow.Author.Needs.{needs}
 use Rattle.evaluator.proofs.check.Statement.{statement}
 use Rattle.evaluator.proofs.check.Tie as tie
 
-slice-aggregate-tabulate : tie.Need-slice-aggregate-tabulate
-slice-aggregate-tabulate c = search needs
+slice-aggregate-fill : tie.Need-slice-aggregate-fill
+slice-aggregate-fill c = search needs
 
-tabulate-requires : tie.Need-tabulate-requires
-tabulate-requires c κs = omega (arith, length-replicate {A = ℕ} 65536 0)
+fill-requires : tie.Need-fill-requires
+fill-requires c κs = search needs
 
 returns : tie.Need-returns
-returns c = c .before .tabulate .ensures .verdict
+returns c = table-checked (enough _) (c .before .fill .ensures)
 
 pub check-spec : {M : Type 1} → statement M
-check-spec = tie.close (tie.spec slice-aggregate-tabulate tabulate-requires returns)
+check-spec = tie.close (tie.spec slice-aggregate-fill fill-requires returns)

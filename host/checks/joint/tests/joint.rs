@@ -30,6 +30,14 @@ const WITH_LAWS: [&str; 7] = [
 const LEFT_OUT: [&str; 2] = ["replay", "x87lift"];
 const CITES_CODE: [&str; 3] = ["Determined", "Cited", "Theorems"];
 
+/// What is about SMT-LIB text, which no joint edit is about: the modules of
+/// the other crates, by their names, and the crates.
+const OF_TEXTS: [&str; 3] = ["smt", "Texts", "Beside"];
+
+fn of_texts(name: &str) -> bool {
+    name.starts_with("smt") || name == "viable"
+}
+
 /// A joint edit: the file whose theorem must refuse it, and what is
 /// replaced where.
 struct Joint {
@@ -131,7 +139,22 @@ fn declarations(source: &str) -> String {
     out
 }
 
-/// Copies the files of a folder, and of the folders in it where `deep`.
+/// A source without the lines that name a module of texts.
+fn without_texts(source: &str) -> String {
+    let is = |line: &&str| {
+        OF_TEXTS
+            .iter()
+            .any(|name| *line == format!("pub mod {name}") || *line == format!("pub mod {name};"))
+    };
+    source
+        .lines()
+        .filter(|line| !is(line))
+        .map(|line| line.to_owned() + "\n")
+        .collect()
+}
+
+/// Copies the files of a folder, and of the folders in it where `deep`; not
+/// those of texts.
 fn copy(from: &Path, to: &Path, deep: bool, change: fn(&str) -> String) {
     let Ok(entries) = fs::read_dir(from) else {
         return;
@@ -140,8 +163,12 @@ fn copy(from: &Path, to: &Path, deep: bool, change: fn(&str) -> String) {
     for entry in entries {
         let path = entry.expect("an entry").path();
         let there = to.join(path.file_name().expect("a name"));
+        let stem = path.file_stem().expect("a name").to_string_lossy();
+        if OF_TEXTS.contains(&stem.as_ref()) {
+            continue;
+        }
         if path.is_file() {
-            fs::write(there, change(&read(&path))).expect("a file");
+            fs::write(there, without_texts(&change(&read(&path)))).expect("a file");
         } else if deep {
             copy(&path, &there, deep, change);
         }
@@ -151,15 +178,20 @@ fn copy(from: &Path, to: &Path, deep: bool, change: fn(&str) -> String) {
 /// The crates without functions and without what cites them.
 fn without_code(root: &Path, to: &Path) {
     let list = read(&root.join("crates.txt"));
-    let kept: Vec<&str> = list
+    let kept: Vec<(&str, Vec<&str>)> = list
         .lines()
-        .filter(|line| {
-            line.split_once(':')
-                .is_some_and(|(name, _)| !name.starts_with('#') && !LEFT_OUT.contains(&name))
+        .filter_map(|line| line.split_once(':'))
+        .filter(|(name, _)| {
+            !name.starts_with('#') && !LEFT_OUT.contains(name) && !of_texts(name)
+        })
+        .map(|(name, deps)| {
+            (
+                name,
+                deps.split_whitespace().filter(|d| !of_texts(d)).collect(),
+            )
         })
         .collect();
-    for line in &kept {
-        let name = line.split(':').next().expect("a name");
+    for (name, _) in &kept {
         let (from, into) = (root.join("crates").join(name), to.join("crates").join(name));
         copy(&from.join("src"), &into.join("src"), false, declarations);
         copy(
@@ -168,7 +200,7 @@ fn without_code(root: &Path, to: &Path) {
             true,
             str::to_owned,
         );
-        if WITH_LAWS.contains(&name) {
+        if WITH_LAWS.contains(name) {
             copy(
                 &from.join("proofs"),
                 &into.join("proofs"),
@@ -177,7 +209,11 @@ fn without_code(root: &Path, to: &Path) {
             );
         }
     }
-    fs::write(to.join("crates.txt"), kept.join("\n") + "\n").expect("crates.txt");
+    let lines: String = kept
+        .iter()
+        .map(|(name, deps)| format!("{name}: {}\n", deps.join(" ")))
+        .collect();
+    fs::write(to.join("crates.txt"), lines).expect("crates.txt");
     let specs = to.join("crates/agreement/specs");
     let mut lib = read(&specs.join("Lib.antt"));
     for name in CITES_CODE {
