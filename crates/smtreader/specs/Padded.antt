@@ -37,7 +37,7 @@ pub get-pad : (l : List ℕ) (i : ℕ) → getD (pad l) i 0 ≡ getD l i 0
 unfolding pad
 get-pad l i = behind l (65536 - length l) i
 
-pub set-pad : (l : List ℕ) (n v : ℕ) → n < length l → set (pad l) n v ≡ pad (set l n v)
+set-pad : (l : List ℕ) (n v : ℕ) → n < length l → set (pad l) n v ≡ pad (set l n v)
 unfolding pad
 set-pad l n v h = rw (length-set l n v) (set-append-left l (replicate (65536 - length l) 0) n v h)
 
