@@ -155,7 +155,7 @@ fn over(
 fn short(text: &[u8], nodes: &mut [u64]) -> Tried
     ensures { λ r. ⌜ TriesText (now (text .entry)) (now (nodes .entry)) 1024 r (now (nodes .exit)) ⌝ }
 {
-    if 65536 < text.len() {
+    if 131072 < text.len() {
         return Tried::Long;
     }
     let mut kinds: [u8; 1024] = [0; 1024];
