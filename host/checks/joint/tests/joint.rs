@@ -181,9 +181,7 @@ fn without_code(root: &Path, to: &Path) {
     let kept: Vec<(&str, Vec<&str>)> = list
         .lines()
         .filter_map(|line| line.split_once(':'))
-        .filter(|(name, _)| {
-            !name.starts_with('#') && !LEFT_OUT.contains(name) && !of_texts(name)
-        })
+        .filter(|(name, _)| !name.starts_with('#') && !LEFT_OUT.contains(name) && !of_texts(name))
         .map(|(name, deps)| {
             (
                 name,
