@@ -36,6 +36,26 @@ const READ_BACK: usize = 40;
 /// Bytes of a text, and others.
 const BYTES: &[u8] = b"0123456789_nx#() =.bBdefRTNEZ\n\0\xff";
 
+/// Numbers about the limits of a text's, and words with one.
+const ODD: [&str; 16] = [
+    "0",
+    "00",
+    "1",
+    "16",
+    "26",
+    "64",
+    "79",
+    "80",
+    "81",
+    "n65534",
+    "n65535",
+    "x65535",
+    "65536",
+    "18446744073709551615",
+    "18446744073709551616",
+    "99999999999999999999",
+];
+
 /// What one call is lent.
 #[derive(Debug, Clone)]
 pub(crate) struct Case {
@@ -222,10 +242,11 @@ fn rooms(text: &[u8]) -> Vec<Case> {
 }
 
 /// Bytes by what was done to them.
-type Damaged = [(&'static str, Vec<Vec<u8>>); 4];
+type Damaged = [(&'static str, Vec<Vec<u8>>); 5];
 
 /// A text cut at every length; with every byte replaced, left out or doubled,
-/// or another text's behind it; with lines changed; and random bytes.
+/// or another text's behind it; with every word replaced; with lines changed;
+/// and random bytes.
 fn damaged(text: &[u8], other: &[u8], rng: &mut Rng) -> Damaged {
     let cut = (0..text.len()).map(|cut| text[..cut].to_vec()).collect();
     let mut lines = lines_changed(text, other, rng);
@@ -235,6 +256,7 @@ fn damaged(text: &[u8], other: &[u8], rng: &mut Rng) -> Damaged {
     [
         ("texts that are cut", cut),
         ("with a byte changed", bytes_changed(text, other, rng)),
+        ("with a word changed", words_changed(text, other, rng)),
         ("with lines changed", lines),
         ("random bytes", vec![any, alike]),
     ]
@@ -254,6 +276,33 @@ fn bytes_changed(text: &[u8], other: &[u8], rng: &mut Rng) -> Vec<Vec<u8>> {
             2 => all.push([&text[..at], &[*rng.pick(BYTES)], &text[at..]].concat()),
             _ => all.push([&text[..at], &other[rng.below(other.len())..]].concat()),
         }
+    }
+    all
+}
+
+/// The words of a text: names, numbers and the parts of names.
+fn words(text: &[u8]) -> Vec<&[u8]> {
+    let words = text.split(|byte| !byte.is_ascii_alphanumeric());
+    words.filter(|word| !word.is_empty()).collect()
+}
+
+/// With each word replaced by another one, or by an odd number.
+fn words_changed(text: &[u8], other: &[u8], rng: &mut Rng) -> Vec<Vec<u8>> {
+    let (own, others) = (words(text), words(other));
+    let mut all = Vec::new();
+    let mut end = 0;
+    for word in &own {
+        let at = text[end..]
+            .windows(word.len())
+            .position(|part| part == *word);
+        let begin = end + at.expect("a word of the text");
+        end = begin + word.len();
+        let new = match rng.below(4) {
+            0 => rng.pick(&ODD).as_bytes(),
+            1 => rng.pick(&others),
+            _ => rng.pick(&own),
+        };
+        all.push([&text[..begin], new, &text[end..]].concat());
     }
     all
 }
