@@ -1,12 +1,12 @@
-/* Writes (and, where the library has it, reads) the text of a list of so many nodes, so many times, for counting. */
+/* Writes and reads the text of a list of so many nodes, so many times, for counting. */
 #include <stdint.h>
 #include <stdio.h>
 #include <stdlib.h>
 
 uint32_t x87_smt_write(const uint64_t *nodes, size_t nodes_len, size_t count, size_t root,
                        uint8_t *text, size_t text_len, uint64_t *out, size_t out_len);
-__attribute__((weak)) uint32_t x87_smt_read(const uint8_t *text, size_t text_len, uint64_t *nodes,
-                                            size_t nodes_len, uint64_t *out, size_t out_len);
+uint32_t x87_smt_read(const uint8_t *text, size_t text_len, uint64_t *nodes, size_t nodes_len,
+                      uint64_t *out, size_t out_len);
 
 /* A chain in which the last node needs every one: an input as a float, then sums, patterns and patterns read again. */
 static void list(uint64_t *w, size_t n)
@@ -33,7 +33,7 @@ int main(int argc, char **argv)
     size_t bytes = out;
     for (size_t i = 0; i < writes; i++)
         answer |= x87_smt_write(w, 4 * n, n, n - 1, text, 256 * n, &out, 1);
-    for (size_t i = 0; i < reads && x87_smt_read; i++)
+    for (size_t i = 0; i < reads; i++)
         answer |= x87_smt_read(text, bytes, back, 4 * n, &out, 1);
     printf("answer %u, %zu nodes, %zu bytes\n", answer, n, bytes);
     return answer != 0;

@@ -16,17 +16,27 @@ const DEFAULT: &str = "../../../target/staticlib/libexport.a";
 /// The program that is asked where the machine is not x86-64.
 const SERVED: &str = "src/served.c";
 
-/// Calls that not every library exports, and what is set where one does not.
-const SOME_EXPORT: [(&str, &str); 3] = [
-    ("x87_lift", "no_lift"),
-    ("x87_smt_write", "no_smt_write"),
-    ("x87_smt_read", "no_smt_read"),
+/// What is said where the library is an older one.
+const ANEW: &str = "make it anew by `rt staticlib export`";
+
+/// The calls that the library has to export.
+const CALLS: [&str; 12] = [
+    "x87_classify",
+    "x87_why",
+    "x87_effect",
+    "x87_read_record",
+    "x87_lift",
+    "x87_lift_record",
+    "x87_image_read",
+    "x87_image_write",
+    "x87_check",
+    "x87_evaluate",
+    "x87_smt_write",
+    "x87_smt_read",
 ];
 
 fn main() {
-    println!(
-        "cargo::rustc-check-cfg=cfg(no_library, no_lift, no_smt_write, no_smt_read, emulated)"
-    );
+    println!("cargo::rustc-check-cfg=cfg(no_library, emulated)");
     println!("cargo::rerun-if-env-changed={VARIABLE}");
     println!("cargo::rerun-if-changed={SERVED}");
     let path = library();
@@ -35,17 +45,20 @@ fn main() {
         println!("cargo::rustc-cfg=no_library");
         return;
     };
+    let defined = defined(&archive);
+    let lacks = |name: &&str| !defined.contains(&name.as_bytes());
+    let lacking: Vec<&str> = CALLS.into_iter().filter(lacks).collect();
+    if !lacking.is_empty() {
+        let (path, lacking) = (path.display(), lacking.join(", "));
+        println!("cargo::error={path} does not export {lacking}; {ANEW}");
+        return;
+    }
     if !emulator::is_needed() || !emulator::is_for_x86_64(&archive) {
         link(&path);
     } else if emulator::made("served", &[Path::new(SERVED), &path]) {
         println!("cargo::rustc-cfg=emulated");
     } else {
         println!("cargo::rustc-cfg=no_library");
-    }
-    for (name, absent) in SOME_EXPORT {
-        if !defines(&archive, name.as_bytes()) {
-            println!("cargo::rustc-cfg={absent}");
-        }
     }
 }
 
@@ -70,11 +83,16 @@ fn link(path: &Path) {
     println!("cargo::rustc-link-lib=static={name}");
 }
 
-/// Whether the archive's index of symbols names this one: its names lie
-/// there one after the other, each ended by a zero byte.
-fn defines(archive: &[u8], name: &[u8]) -> bool {
-    let mut whole = vec![0];
-    whole.extend(name);
-    whole.push(0);
-    archive.windows(whole.len()).any(|w| w == whole)
+/// The symbols that an archive defines. Its index lies behind a mark and a
+/// header: how many they are, a place for each, then the names, each ended by
+/// a zero byte.
+fn defined(archive: &[u8]) -> Vec<&[u8]> {
+    const MARK_AND_HEADER: usize = 8 + 60;
+    let index = archive.get(MARK_AND_HEADER..).unwrap_or_default();
+    let Some((count, rest)) = index.split_first_chunk() else {
+        return Vec::new();
+    };
+    let count = u32::from_be_bytes(*count) as usize;
+    let names = rest.get(4 * count..).unwrap_or_default();
+    names.split(|&byte| byte == 0).take(count).collect()
 }

@@ -6,6 +6,7 @@ use std::io::Write as _;
 pub mod checks;
 pub mod classify;
 pub mod damage;
+pub mod every_text;
 pub mod expect;
 pub mod formulas;
 pub mod images;
@@ -67,6 +68,18 @@ pub mod listings;
 pub fn left_out(why: &str) {
     // A line that cannot be written is no reason to fail.
     let _ = writeln!(std::io::stderr(), "left out: {why}");
+}
+
+/// How many cases a test compares of so many, or demands: fewer where the
+/// library is run by an emulator, which takes long.
+#[must_use]
+pub fn fewer(size: u64) -> u64 {
+    const FEWER: u64 = 8;
+    if sleetgate_sys::is_emulated() {
+        size / FEWER
+    } else {
+        size
+    }
 }
 
 /// Say where the library is run by an emulator: what is measured then says

@@ -16,7 +16,7 @@ use crate::subject::{Plain, Texts};
 use crate::texts;
 
 /// Words that a case may lend to be told, and what they hold.
-const WORDS: usize = 3;
+pub(crate) const WORDS: usize = 3;
 const WORDS_BEFORE: [u64; WORDS] = [0xa5a5, 0x5a5a, 0x1111];
 
 /// What a lent word of a list holds.
@@ -36,25 +36,45 @@ const READ_BACK: usize = 40;
 /// Bytes of a text, and others.
 const BYTES: &[u8] = b"0123456789_nx#() =.bBdefRTNEZ\n\0\xff";
 
+/// Numbers about the limits of a text's, and words with one.
+const ODD: [&str; 16] = [
+    "0",
+    "00",
+    "1",
+    "16",
+    "26",
+    "64",
+    "79",
+    "80",
+    "81",
+    "n65534",
+    "n65535",
+    "x65535",
+    "65536",
+    "18446744073709551615",
+    "18446744073709551616",
+    "99999999999999999999",
+];
+
 /// What one call is lent.
 #[derive(Debug, Clone)]
-struct Case {
-    text: Vec<u8>,
+pub(crate) struct Case {
+    pub text: Vec<u8>,
     /// Words lent for the nodes, and to be told.
-    nodes: usize,
-    words: usize,
+    pub nodes: usize,
+    pub words: usize,
 }
 
 /// A number, and what was lent after the call.
 #[derive(Debug, Clone, PartialEq, Eq)]
-struct Answer {
-    number: u32,
-    words: [u64; WORDS],
+pub(crate) struct Answer {
+    pub number: u32,
+    pub words: [u64; WORDS],
     nodes: Vec<u64>,
 }
 
 impl Case {
-    fn asked(&self, subject: &dyn Texts) -> Answer {
+    pub fn asked(&self, subject: &dyn Texts) -> Answer {
         let (mut words, mut nodes) = (WORDS_BEFORE, vec![WORD; self.nodes]);
         let number = subject.smt_read(&self.text, &mut nodes, &mut words[..self.words]);
         Answer {
@@ -90,10 +110,14 @@ fn random_texts(subject: &dyn Texts, size: u64, seed: u64, mut report: Report) -
             read_back(subject, &list, root, &mut report);
         }
         let text = good(&grid, &mut rng);
-        let damaged = damaged(&text, &last, &mut rng).into_iter();
-        let cases = damaged.map(|bytes| lent(bytes, &mut rng));
-        for case in rooms(&text).into_iter().chain(cases) {
+        for case in rooms(&text) {
             compare(subject, &case, &text, &mut report);
+        }
+        for (name, all) in damaged(&text, &last, &mut rng) {
+            report.note(name, all.len() as u64);
+            for bytes in all {
+                compare(subject, &lent(bytes, &mut rng), &text, &mut report);
+            }
         }
         last = text;
     }
@@ -217,10 +241,29 @@ fn rooms(text: &[u8]) -> Vec<Case> {
     cases
 }
 
-/// A text cut at every length; with every byte replaced, left out or doubled;
-/// with lines changed; and mixed with another.
-fn damaged(text: &[u8], other: &[u8], rng: &mut Rng) -> Vec<Vec<u8>> {
-    let mut all: Vec<Vec<u8>> = (0..text.len()).map(|cut| text[..cut].to_vec()).collect();
+/// Bytes by what was done to them.
+type Damaged = [(&'static str, Vec<Vec<u8>>); 5];
+
+/// A text cut at every length; with every byte replaced, left out or doubled,
+/// or another text's behind it; with every word replaced; with lines changed;
+/// and random bytes.
+fn damaged(text: &[u8], other: &[u8], rng: &mut Rng) -> Damaged {
+    let cut = (0..text.len()).map(|cut| text[..cut].to_vec()).collect();
+    let mut lines = lines_changed(text, other, rng);
+    lines.push([text, other].concat());
+    let any = (0..rng.below(40)).map(|_| rng.byte()).collect();
+    let alike = (0..rng.below(40)).map(|_| *rng.pick(BYTES)).collect();
+    [
+        ("texts that are cut", cut),
+        ("with a byte changed", bytes_changed(text, other, rng)),
+        ("with a word changed", words_changed(text, other, rng)),
+        ("with lines changed", lines),
+        ("random bytes", vec![any, alike]),
+    ]
+}
+
+fn bytes_changed(text: &[u8], other: &[u8], rng: &mut Rng) -> Vec<Vec<u8>> {
+    let mut all = Vec::new();
     for at in 0..text.len() {
         for _ in 0..3 {
             let mut bytes = text.to_vec();
@@ -234,10 +277,33 @@ fn damaged(text: &[u8], other: &[u8], rng: &mut Rng) -> Vec<Vec<u8>> {
             _ => all.push([&text[..at], &other[rng.below(other.len())..]].concat()),
         }
     }
-    all.extend(lines_changed(text, other, rng));
-    all.push([text, other].concat());
-    all.push((0..rng.below(40)).map(|_| rng.byte()).collect());
-    all.push((0..rng.below(40)).map(|_| *rng.pick(BYTES)).collect());
+    all
+}
+
+/// The words of a text: names, numbers and the parts of names.
+fn words(text: &[u8]) -> Vec<&[u8]> {
+    let words = text.split(|byte| !byte.is_ascii_alphanumeric());
+    words.filter(|word| !word.is_empty()).collect()
+}
+
+/// With each word replaced by another one, or by an odd number.
+fn words_changed(text: &[u8], other: &[u8], rng: &mut Rng) -> Vec<Vec<u8>> {
+    let (own, others) = (words(text), words(other));
+    let mut all = Vec::new();
+    let mut end = 0;
+    for word in &own {
+        let at = text[end..]
+            .windows(word.len())
+            .position(|part| part == *word);
+        let begin = end + at.expect("a word of the text");
+        end = begin + word.len();
+        let new = match rng.below(4) {
+            0 => rng.pick(&ODD).as_bytes(),
+            1 => rng.pick(&others),
+            _ => rng.pick(&own),
+        };
+        all.push([&text[..begin], new, &text[end..]].concat());
+    }
     all
 }
 
@@ -299,7 +365,7 @@ fn compare(subject: &dyn Texts, case: &Case, good: &[u8], report: &mut Report) {
     }
 }
 
-fn say(case: &Case, expected: &Answer, got: &Answer) -> String {
+pub(crate) fn say(case: &Case, expected: &Answer, got: &Answer) -> String {
     format!(
         "reading of a text, {} words lent for nodes, {} to be told\n{}\n\
          expected {expected:?}\ngot      {got:?}",

@@ -7,7 +7,9 @@ use std::sync::Once;
 use differential::report::Report;
 use differential::solver::Solver;
 use differential::subject::{Formulas, Library, RecordLifter, Subject};
-use differential::{checks, images, left_out, record_lifts, stored, stored_formulas, values};
+use differential::{
+    checks, fewer, images, left_out, record_lifts, stored, stored_formulas, values,
+};
 use plain::state::{ROW, STATE};
 use plain::values::{VALUE, takes_given, value};
 
@@ -127,7 +129,7 @@ fn shown(report: &Report, call: &str) {
 /// A sort check with this fault is reported, on random lists and on the
 /// stored ones.
 fn checked(subject: &Faulty) {
-    shown(&checks::run(subject, 20_000, 3), "check of ");
+    shown(&checks::run(subject, fewer(20_000), 3), "check of ");
     let stored = stored::file("checks.bin").expect("it is stored");
     shown(&stored_formulas::checks(subject, &stored), "check of ");
 }
@@ -210,7 +212,7 @@ fn a_word_beyond_the_verdict_is_reported() {
         }
         number
     });
-    shown(&checks::run(&subject, 20_000, 3), "check of ");
+    shown(&checks::run(&subject, fewer(20_000), 3), "check of ");
 }
 
 /// The solvers that are at hand; of the others it is said once that they
@@ -319,7 +321,7 @@ fn a_refusal_that_writes_or_names_another_node_is_reported() {
 /// Image calls with this fault are reported, by the processor and on the
 /// stored images.
 fn imaged(subject: &Faulty, what: &str) {
-    shown(&images::run(subject, 20_000, 3), what);
+    shown(&images::run(subject, fewer(20_000), 3), what);
     let stored = stored::file("images.bin").expect("it is stored");
     shown(&stored_formulas::images(subject, &stored), "stored ");
 }
@@ -435,7 +437,7 @@ impl RecordLifter for FaultyRecords {
 /// Each of these faults in the call on a record is reported.
 fn records_reported(faults: &[Mistell]) {
     for &fault in faults {
-        let report = record_lifts::run(&FaultyRecords(fault), 20_000, 3);
+        let report = record_lifts::run(&FaultyRecords(fault), fewer(20_000), 3);
         shown(&report, "lift_record at ");
     }
 }
@@ -512,9 +514,9 @@ fn wrong_details_of_a_lifted_record_are_reported() {
 fn without_a_fault_nothing_differs() {
     let subject = Faulty::default();
     let reports = [
-        checks::run(&subject, 20_000, 3),
-        images::run(&subject, 20_000, 3),
-        record_lifts::run(&FaultyRecords(|_, _, _, _| ()), 20_000, 3),
+        checks::run(&subject, fewer(20_000), 3),
+        images::run(&subject, fewer(20_000), 3),
+        record_lifts::run(&FaultyRecords(|_, _, _, _| ()), fewer(20_000), 3),
     ];
     for report in reports {
         assert!(report.is_equal(), "{report}");

@@ -4,7 +4,8 @@
 use differential::report::Report;
 use differential::solver::Solver;
 use differential::subject::{Library, Plain, Texts};
-use differential::{left_out, stored_texts, text_reads, text_values, texts};
+use differential::{every_text, left_out, stored_texts, text_reads, text_values, texts};
+use plain::smt::{arity, is_declared};
 use plain::state::ROW;
 use plain::{MODELLED, NO_NODES, NO_ROOT, NO_SORT, NO_TEXT, TEXT_TOO_LONG, TOO_SHORT};
 
@@ -223,12 +224,63 @@ fn without_zero(text: &[u8]) -> Vec<u8> {
     passed.into_bytes()
 }
 
+/// Two blanks are taken for one.
+fn without_blanks(text: &[u8]) -> Vec<u8> {
+    let blanks = |at: &usize| text[*at] != b' ' || *at == 0 || text[at - 1] != b' ';
+    (0..text.len()).filter(blanks).map(|at| text[at]).collect()
+}
+
+/// The last line need not be ended.
+fn with_end(text: &[u8]) -> Vec<u8> {
+    let end: &[u8] = if text.ends_with(b")") { b"\n" } else { b"" };
+    [text, end].concat()
+}
+
+const MISHEARD: [Mishear; 3] = [without_zero, without_blanks, with_end];
+
+/// Change a word, if it is there.
+fn put(words: &mut [u64], at: usize, word: u64) {
+    if let Some(there) = words.get_mut(at) {
+        *there = word;
+    }
+}
+
+/// The rows that were read.
+fn rows_read<'a>(number: u32, nodes: &'a mut [u64], out: &[u64]) -> &'a mut [[u64; ROW]] {
+    let count = if number == MODELLED { out[0] } else { 0 };
+    let count = usize::try_from(count).expect("in memory");
+    &mut nodes.as_chunks_mut().0[..count]
+}
+
+/// Nodes in the order of their lines: those that are declared come first.
+fn by_lines(rows: &mut [[u64; ROW]]) {
+    let (declared, defined): (Vec<usize>, Vec<usize>) =
+        (0..rows.len()).partition(|&node| is_declared(rows[node][0]));
+    let order = [declared, defined].concat();
+    let moved: Vec<[u64; ROW]> = order.iter().map(|&node| rows[node]).collect();
+    rows.copy_from_slice(&moved);
+    for row in rows {
+        let operands = arity(row[0]);
+        for operand in &mut row[1..=operands] {
+            let now = order.iter().position(|&node| node as u64 == *operand);
+            *operand = now.expect("an earlier node") as u64;
+        }
+    }
+}
+
 /// Faults of a reader.
-const MISREAD: [Misread; 4] = [
+const MISREAD: [Misread; 12] = [
     // The place is one further.
     |number, _, _, out| {
         if number == NO_TEXT {
             out[0] += 1;
+        }
+        number
+    },
+    // The place is one too early.
+    |number, _, _, out| {
+        if number == NO_TEXT {
+            out[0] = out[0].saturating_sub(1);
         }
         number
     },
@@ -240,10 +292,24 @@ const MISREAD: [Misread; 4] = [
         }
         number
     },
-    // Rows are written beside a refusal.
+    // Rows are written beside a place.
     |number, _, nodes, _| {
-        if let (NO_TEXT, Some(first)) = (number, nodes.first_mut()) {
-            *first = 1;
+        if number == NO_TEXT {
+            put(nodes, 0, 1);
+        }
+        number
+    },
+    // Rows are written where not all have room.
+    |number, _, nodes, _| {
+        if number == NO_NODES {
+            put(nodes, 0, 1);
+        }
+        number
+    },
+    // The nodes that have no room are counted.
+    |number, _, _, out| {
+        if number == NO_NODES {
+            out[0] = 1;
         }
         number
     },
@@ -255,20 +321,71 @@ const MISREAD: [Misread; 4] = [
         }
         number
     },
+    // The text is looked at before the words to be told.
+    |number, _, _, _| {
+        if number == TOO_SHORT { NO_TEXT } else { number }
+    },
+    // A row behind the nodes is written.
+    |number, _, nodes, out| {
+        let behind = rows_read(number, nodes, out).len() * ROW;
+        if number == MODELLED {
+            put(nodes, behind, 0);
+        }
+        number
+    },
+    // A word behind the one that is told is written.
+    |number, _, _, out| {
+        put(out, 1, 0);
+        number
+    },
+    // The first two nodes are exchanged.
+    |number, _, nodes, out| {
+        if let [first, second, ..] = rows_read(number, nodes, out) {
+            std::mem::swap(first, second);
+        }
+        number
+    },
+    // Nodes stand in the order of their lines.
+    |number, _, nodes, out| {
+        by_lines(rows_read(number, nodes, out));
+        number
+    },
 ];
 
 #[test]
 fn wrong_readers_are_reported() {
-    let deaf = Faulty {
-        mishear: Some(without_zero),
+    let misheard = MISHEARD.map(|mishear| Faulty {
+        mishear: Some(mishear),
         ..Faulty::default()
-    };
+    });
     let misread = MISREAD.map(|misread| Faulty {
         misread: Some(misread),
         ..Faulty::default()
     });
-    for subject in misread.into_iter().chain([deaf]) {
-        shown(&text_reads::run_short(&subject, 30_000, 3), "reading of ");
+    for (fault, subject) in misread.iter().chain(&misheard).enumerate() {
+        let report = text_reads::run_short(subject, 10_000, 3);
+        assert!(!report.is_equal(), "fault {fault}");
+        shown(&report, "reading of ");
+    }
+}
+
+/// Of what is read wrongly the list of every text tells as well.
+#[test]
+fn wrong_readers_of_every_text_are_reported() {
+    let further = Faulty {
+        misread: Some(MISREAD[0]),
+        ..Faulty::default()
+    };
+    let deaf = Faulty {
+        mishear: Some(without_zero),
+        ..Faulty::default()
+    };
+    let by_lines = Faulty {
+        misread: Some(MISREAD[11]),
+        ..Faulty::default()
+    };
+    for subject in [further, deaf, by_lines] {
+        shown(&every_text::run(&subject, 20_000, 3), "the list says ");
     }
 }
 

@@ -6,8 +6,8 @@ use differential::report::Report;
 use differential::solver::Solver;
 use differential::subject::Library;
 use differential::{
-    NO_ORACLE, checks, classify, images, left_out, lift, oracle, processor, record_lifts, records,
-    stored, values,
+    NO_ORACLE, checks, classify, fewer, images, left_out, lift, oracle, processor, record_lifts,
+    records, values,
 };
 use plain::Instruction;
 use sleetgate_sys::untested;
@@ -20,7 +20,10 @@ fn equal(report: &Report) {
 /// Equal, and each detail was expected often.
 fn equal_with_details(report: &Report) {
     equal(report);
-    assert!(report.details.iter().all(|&count| count > 30), "{report}");
+    assert!(
+        report.details.iter().all(|&count| count > fewer(30)),
+        "{report}"
+    );
 }
 
 #[test]
@@ -30,44 +33,38 @@ fn classify_why_and_effect_answer_as_the_rust() {
         left_out(NO_ORACLE);
         return;
     }
-    equal_with_details(&classify::run(&Library, 200_000, 2));
+    equal_with_details(&classify::run(&Library, fewer(200_000), 2));
 }
 
 #[test]
 fn records_are_read_as_the_manual_says() {
     assert!(sleetgate_sys::at_hand(), "{}", sleetgate_sys::MISSING);
-    equal(&records::run(&Library, 200_000, 2));
+    equal(&records::run(&Library, fewer(200_000), 2));
 }
 
 #[test]
 fn lift_answers_as_the_rust() {
     assert!(sleetgate_sys::at_hand(), "{}", sleetgate_sys::MISSING);
-    if !sleetgate_sys::has_lift() {
-        let stored = stored::file("lifts.bin").is_some();
-        assert!(!stored, "{}", sleetgate_sys::MISSING_LIFT);
-        left_out(sleetgate_sys::MISSING_LIFT);
-        return;
-    }
     if !oracle::at_hand() {
         left_out(NO_ORACLE);
         return;
     }
-    equal_with_details(&lift::run(&Library, 2_000, 2));
+    equal_with_details(&lift::run(&Library, fewer(2_000), 2));
 }
 
 #[test]
 fn a_record_is_lifted_as_by_two_calls() {
     assert!(sleetgate_sys::at_hand(), "{}", sleetgate_sys::MISSING);
-    equal_with_details(&record_lifts::run(&Library, 100_000, 2));
+    equal_with_details(&record_lifts::run(&Library, fewer(100_000), 2));
 }
 
 #[test]
 fn sorts_are_checked_as_the_manual_says() {
     assert!(sleetgate_sys::at_hand(), "{}", sleetgate_sys::MISSING);
-    let report = checks::run(&Library, 50_000, 2);
+    let report = checks::run(&Library, fewer(50_000), 2);
     equal(&report);
     for (name, count) in report.notes {
-        assert!(count > 100, "{name}: {count}");
+        assert!(count > fewer(100), "{name}: {count}");
     }
 }
 
@@ -75,10 +72,10 @@ fn sorts_are_checked_as_the_manual_says() {
 fn images_are_the_processors() {
     assert!(sleetgate_sys::at_hand(), "{}", sleetgate_sys::MISSING);
     processor::tell_emulated();
-    let report = images::run(&Library, 300_000, 2);
+    let report = images::run(&Library, fewer(300_000), 2);
     equal(&report);
     for (name, count) in report.notes {
-        assert!(count > 1_000, "{name}: {count}");
+        assert!(count > fewer(1_000), "{name}: {count}");
     }
 }
 

@@ -7,7 +7,7 @@ use std::fs;
 use std::path::{Path, PathBuf};
 
 use differential::programs::of_length;
-use differential::{NO_ORACLE, left_out, listings, oracle};
+use differential::{NO_ORACLE, fewer, left_out, listings, oracle};
 use program::{MISSING, Program};
 
 /// A stored input, and the listing that it has.
@@ -171,13 +171,16 @@ fn the_program_lists_as_the_manual_and_the_rust() {
         left_out(NO_ORACLE);
         return;
     }
-    let report = listings::run(&program, 3_000, 2).expect("the program runs");
+    let report = listings::run(&program, fewer(3_000), 2).expect("the program runs");
     println!("{report}");
     assert!(report.is_equal(), "{report}");
     for number in [0, 3, 4, 6, 7, 11, 12, 13] {
-        assert!(report.expecting(number) > 20, "{number}: {report}");
+        assert!(report.expecting(number) > fewer(20), "{number}: {report}");
     }
-    assert!(report.details.iter().all(|&count| count > 20), "{report}");
+    assert!(
+        report.details.iter().all(|&count| count > fewer(20)),
+        "{report}"
+    );
 }
 
 /// With an argument the program reads nothing: it says its version, which

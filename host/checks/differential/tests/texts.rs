@@ -1,7 +1,6 @@
 //! Formulas as SMT-LIB text: the library against the rules said plainly,
 //! against both solvers and against what is stored, in a smaller fixed part
-//! of the full runs. Where the library writes no texts, a line says so, and
-//! the solvers are asked of those that are said plainly.
+//! of the full runs.
 
 use std::io;
 
@@ -11,11 +10,10 @@ use differential::instructions::Grid;
 use differential::report::Report;
 use differential::rng::Rng;
 use differential::solver::Solver;
-use differential::subject::{Library, Plain, Texts};
-use differential::{left_out, stored_texts, text_reads, text_values, texts};
+use differential::subject::{Library, Plain};
+use differential::{every_text, fewer, left_out, stored_texts, text_reads, text_values, texts};
 use plain::smt::{self, Read};
 use sleetgate::{Nodes, Refusal, smt_lib};
-use sleetgate_sys::{MISSING_SMT_READ, MISSING_SMT_WRITE, has_smt_read, has_smt_write};
 
 fn equal(report: &Report) {
     println!("{report}");
@@ -26,39 +24,38 @@ fn equal(report: &Report) {
 fn equal_with(report: &Report, numbers: &[u32]) {
     equal(report);
     for &number in numbers {
-        assert!(report.expecting(number) > 100, "{report}");
+        assert!(report.expecting(number) > fewer(100), "{report}");
     }
 }
 
-/// Whether the library writes texts; a line says so where it does not.
-fn writes() -> bool {
+/// The library is there.
+#[track_caller]
+fn at_hand() {
     assert!(sleetgate_sys::at_hand(), "{}", sleetgate_sys::MISSING);
-    if !has_smt_write() {
-        left_out(MISSING_SMT_WRITE);
-    }
-    has_smt_write()
-}
-
-/// Whether the library reads texts; a line says so where it does not.
-fn reads() -> bool {
-    assert!(sleetgate_sys::at_hand(), "{}", sleetgate_sys::MISSING);
-    if !has_smt_read() {
-        left_out(MISSING_SMT_READ);
-    }
-    has_smt_read()
 }
 
 #[test]
 fn texts_are_written_as_the_manual_says() {
-    if writes() {
-        equal_with(&texts::run(&Library, 5_000, 2), &[0, 8, 10, 31, 32]);
-    }
+    at_hand();
+    equal_with(&texts::run(&Library, 5_000, 2), &[0, 8, 10, 31, 32]);
 }
 
 #[test]
 fn texts_are_read_by_the_definition_of_the_subset() {
-    if reads() {
-        equal_with(&text_reads::run(&Library, 40_000, 2), &[0, 6, 10, 41]);
+    at_hand();
+    equal_with(
+        &text_reads::run(&Library, fewer(40_000), 2),
+        &[0, 6, 10, 41],
+    );
+}
+
+#[test]
+fn every_text_of_small_universes_is_read() {
+    at_hand();
+    let report = every_text::run(&Library, fewer(40_000), 2);
+    equal_with(&report, &[0, 41]);
+    for (name, count) in report.notes {
+        assert!(count > fewer(100), "{name}: {count}");
     }
 }
 
@@ -73,9 +70,7 @@ fn told<T>(answer: Result<T, Refusal>) -> Result<T, (u32, usize)> {
 
 #[test]
 fn the_binding_writes_as_the_manual_says() {
-    if !writes() {
-        return;
-    }
+    at_hand();
     let (grid, mut rng) = (Grid::default(), Rng::new(8));
     for _ in 0..300 {
         let case = checks::case(&grid, &mut rng);
@@ -89,9 +84,7 @@ fn the_binding_writes_as_the_manual_says() {
 
 #[test]
 fn the_binding_reads_by_the_definition_of_the_subset() {
-    if !reads() {
-        return;
-    }
+    at_hand();
     let mut rng = Rng::new(8);
     for _ in 0..300 {
         let list = random(&mut rng, 12);
@@ -119,19 +112,16 @@ fn the_binding_of_texts_tests_lengths_first() {
 
 #[test]
 fn stored_texts_are_written_and_read() {
+    at_hand();
     equal(&stored_texts::written(&Plain));
     equal(&stored_texts::read(&Plain));
-    if writes() {
-        equal(&stored_texts::written(&Library));
-    }
-    if reads() {
-        equal(&stored_texts::read(&Library));
-    }
+    equal(&stored_texts::written(&Library));
+    equal(&stored_texts::read(&Library));
 }
 
 #[test]
 fn stored_texts_mean_what_the_solvers_said() {
-    assert!(sleetgate_sys::at_hand(), "{}", sleetgate_sys::MISSING);
+    at_hand();
     equal(&stored_texts::values(&Library));
 }
 
@@ -150,13 +140,9 @@ fn stored_texts_are_what_the_solvers_say_today() {
     }
 }
 
-/// Whose texts the solvers are asked of.
-fn subject() -> &'static dyn Texts {
-    if writes() { &Library } else { &Plain }
-}
-
 /// What a run says with a solver, where that is at hand.
 fn by_solver(solver: Solver, run: impl Fn(Solver) -> io::Result<Report>) {
+    at_hand();
     if solver.at_hand() {
         equal(&run(solver).expect("the solver runs"));
     } else {
@@ -165,11 +151,11 @@ fn by_solver(solver: Solver, run: impl Fn(Solver) -> io::Result<Report>) {
 }
 
 fn meaning(solver: Solver) -> io::Result<Report> {
-    text_values::run(subject(), &Library, solver, 120, 2)
+    text_values::run(&Library, &Library, solver, 120, 2)
 }
 
 fn taken(solver: Solver) -> io::Result<Report> {
-    text_values::taken(subject(), solver, 60, 2)
+    text_values::taken(&Library, solver, 60, 2)
 }
 
 #[test]

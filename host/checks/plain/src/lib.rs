@@ -5,6 +5,7 @@
 //! image holds, and how formulas are written as text and read back. Written
 //! for being read, not for speed.
 
+pub mod every_text;
 mod flat;
 pub mod image;
 mod reader;

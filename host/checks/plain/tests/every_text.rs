@@ -3,19 +3,11 @@
 //! Beside that, in the whole universe, what it takes is some list's text,
 //! and what it says begins a text can be ended as one.
 
-#[path = "every_text/damaged.rs"]
-mod damaged;
-#[path = "every_text/listed.rs"]
-mod listed;
-#[path = "every_text/universes.rs"]
-mod universes;
 #[path = "every_text/whole.rs"]
 mod whole;
 
+use plain::every_text::{Texts, damaged, universes};
 use plain::smt::{Universe, numbered};
-
-use damaged::damaged;
-use listed::Texts;
 
 /// Texts of each universe that are damaged.
 const SAMPLE: usize = 16;
@@ -62,7 +54,7 @@ fn compared(reader: Reader, universe: &Universe, texts: &Texts, sample: usize) -
 
 #[test]
 fn places_are_those_of_the_list_of_every_text() {
-    for (name, universe) in universes::all() {
+    for (name, universe) in universes() {
         let texts = Texts::of(&universe);
         for text in &texts.0 {
             assert_eq!(plain_reader(text.as_bytes(), &universe), None, "{text}");
@@ -125,7 +117,7 @@ fn one_earlier(bytes: &[u8], universe: &Universe) -> Option<usize> {
 
 #[test]
 fn a_wrong_reader_is_seen() {
-    let universes = universes::all();
+    let universes = universes();
     let find = |wanted: &str| {
         let named = universes.iter().find(|(name, _)| *name == wanted);
         &named.expect("it is there").1

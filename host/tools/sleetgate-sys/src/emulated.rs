@@ -152,9 +152,6 @@ pub fn lift(
     statements: &mut [u64],
     out: &mut [u64],
 ) -> u32 {
-    if cfg!(no_lift) {
-        panic!("{}", crate::MISSING_LIFT);
-    }
     let [state, nodes, statements, out] = [state, nodes, statements, out].map(WrittenWords);
     let lent = &mut [Bytes(flat), state, nodes, statements, out];
     ask(Call::Lift, [0; 2], lent)
@@ -212,18 +209,12 @@ pub fn smt_write(
     text: &mut [u8],
     out: &mut [u64],
 ) -> u32 {
-    if cfg!(no_smt_write) {
-        panic!("{}", crate::MISSING_SMT_WRITE);
-    }
     let lent = &mut [Words(nodes), WrittenBytes(text), WrittenWords(out)];
     ask(Call::SmtWrite, [count as u64, root as u64], lent)
 }
 
 /// As [`crate::smt_read`], on any lengths.
 pub fn smt_read(text: &[u8], nodes: &mut [u64], out: &mut [u64]) -> u32 {
-    if cfg!(no_smt_read) {
-        panic!("{}", crate::MISSING_SMT_READ);
-    }
     let [nodes, out] = [nodes, out].map(WrittenWords);
     ask(Call::SmtRead, [0; 2], &mut [Bytes(text), nodes, out])
 }

@@ -48,24 +48,6 @@ pub fn is_emulated() -> bool {
     cfg!(emulated)
 }
 
-/// Whether the library exports the lifter.
-#[must_use]
-pub fn has_lift() -> bool {
-    cfg!(not(any(no_library, no_lift)))
-}
-
-/// Whether the library exports the writer of SMT-LIB text.
-#[must_use]
-pub fn has_smt_write() -> bool {
-    cfg!(not(any(no_library, no_smt_write)))
-}
-
-/// Whether the library exports the reader of SMT-LIB text.
-#[must_use]
-pub fn has_smt_read() -> bool {
-    cfg!(not(any(no_library, no_smt_read)))
-}
-
 /// What is said where the library is not there.
 #[cfg(target_arch = "x86_64")]
 pub const MISSING: &str = "the static library of the proved crates was not there when this was \
@@ -77,15 +59,6 @@ pub const MISSING: &str = "the static library of the proved crates, or what runs
                            was not there when this was built; make the library by `rt staticlib \
                            export`, install the rest by `bash host/tools/emulator.sh`, then \
                            build this again";
-
-/// What is said where the library has no lifter.
-pub const MISSING_LIFT: &str = "the static library does not export x87_lift";
-
-/// What is said where the library writes no SMT-LIB text.
-pub const MISSING_SMT_WRITE: &str = "the static library does not export x87_smt_write";
-
-/// What is said where the library reads no SMT-LIB text.
-pub const MISSING_SMT_READ: &str = "the static library does not export x87_smt_read";
 
 /// 10, and zeros for the words that are told, where they have room.
 fn too_short(out: &mut [u64], told: usize) -> u32 {

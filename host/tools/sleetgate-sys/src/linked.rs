@@ -17,7 +17,6 @@ unsafe extern "C" {
         out_len: usize,
     ) -> u32;
 
-    #[cfg(not(no_lift))]
     fn x87_lift(
         record: *const u8,
         record_len: usize,
@@ -76,7 +75,6 @@ unsafe extern "C" {
         out_len: usize,
     ) -> u32;
 
-    #[cfg(not(no_smt_write))]
     fn x87_smt_write(
         nodes: *const u64,
         nodes_len: usize,
@@ -88,7 +86,6 @@ unsafe extern "C" {
         out_len: usize,
     ) -> u32;
 
-    #[cfg(not(no_smt_read))]
     fn x87_smt_read(
         text: *const u8,
         text_len: usize,
@@ -135,7 +132,6 @@ pub fn read_record(input: &[u8], at: usize, flat: &mut [u8], out: &mut [u64]) ->
 }
 
 /// As [`crate::lift`], on any lengths.
-#[cfg(not(no_lift))]
 pub fn lift(
     flat: &[u8],
     state: &mut [u64],
@@ -158,12 +154,6 @@ pub fn lift(
             out.len(),
         )
     }
-}
-
-/// As [`crate::lift`], where the library has no lifter.
-#[cfg(no_lift)]
-pub fn lift(_: &[u8], _: &mut [u64], _: &mut [u64], _: &mut [u64], _: &mut [u64]) -> u32 {
-    panic!("{}", crate::MISSING_LIFT)
 }
 
 /// As [`crate::lift_record`], on any lengths.
@@ -253,7 +243,6 @@ pub fn evaluate(
 }
 
 /// As [`crate::smt_write`], on any lengths.
-#[cfg(not(no_smt_write))]
 pub fn smt_write(
     nodes: &[u64],
     count: usize,
@@ -276,14 +265,7 @@ pub fn smt_write(
     }
 }
 
-/// As [`crate::smt_write`], where the library has no writer.
-#[cfg(no_smt_write)]
-pub fn smt_write(_: &[u64], _: usize, _: usize, _: &mut [u8], _: &mut [u64]) -> u32 {
-    panic!("{}", crate::MISSING_SMT_WRITE)
-}
-
 /// As [`crate::smt_read`], on any lengths.
-#[cfg(not(no_smt_read))]
 pub fn smt_read(text: &[u8], nodes: &mut [u64], out: &mut [u64]) -> u32 {
     // SAFETY: as in `classify`.
     unsafe {
@@ -296,10 +278,4 @@ pub fn smt_read(text: &[u8], nodes: &mut [u64], out: &mut [u64]) -> u32 {
             out.len(),
         )
     }
-}
-
-/// As [`crate::smt_read`], where the library has no reader.
-#[cfg(no_smt_read)]
-pub fn smt_read(_: &[u8], _: &mut [u64], _: &mut [u64]) -> u32 {
-    panic!("{}", crate::MISSING_SMT_READ)
 }

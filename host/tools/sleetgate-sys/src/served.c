@@ -19,6 +19,8 @@ extern number x87_classify(const byte *, word, word *, word);
 extern number x87_why(const byte *, word, word *, word);
 extern number x87_effect(const byte *, word, word *, word);
 extern number x87_read_record(const byte *, word, word, byte *, word, word *, word);
+extern number x87_lift(const byte *, word, word *, word, word *, word, word *, word,
+                       word *, word);
 extern number x87_lift_record(const byte *, word, word, word *, word, word *, word,
                               word *, word, word *, word);
 extern number x87_image_read(const byte *, word, word, word, word *, word);
@@ -26,14 +28,8 @@ extern number x87_image_write(byte *, word, word, word);
 extern number x87_check(const word *, word, word, word *, word);
 extern number x87_evaluate(const word *, word, word, const word *, word, word *, word,
                            word *, word);
-
-/* Not in every library; `emulated.rs` does not ask for them then. */
-extern number x87_lift(const byte *, word, word *, word, word *, word, word *, word,
-                       word *, word) __attribute__((weak));
-extern number x87_smt_write(const word *, word, word, word, byte *, word, word *, word)
-    __attribute__((weak));
-extern number x87_smt_read(const byte *, word, word *, word, word *, word)
-    __attribute__((weak));
+extern number x87_smt_write(const word *, word, word, word, byte *, word, word *, word);
+extern number x87_smt_read(const byte *, word, word *, word, word *, word);
 
 enum { SLICES = 5, WORD = sizeof(word) };
 enum {

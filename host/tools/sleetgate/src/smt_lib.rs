@@ -30,7 +30,6 @@ const LINE: usize = 64;
 /// use sleetgate::{Flag, Node, Nodes, smt_lib};
 ///
 /// let list = Node::words(&[Node::Flag(Flag::ZF), Node::Status, Node::BoolNot(0)]);
-/// # if !sleetgate_sys::has_smt_write() { return Ok(()) }
 /// let text = smt_lib::write(Nodes::new(&list), 2)?;
 /// let lines = [
 ///     "(declare-fun x0_5_2 () (_ BitVec 1))",
@@ -66,7 +65,6 @@ pub fn write(nodes: Nodes<'_>, root: u64) -> Result<String, Refusal> {
 /// ```
 /// use sleetgate::{Flag, Node, Refusal, smt_lib};
 ///
-/// # if !sleetgate_sys::has_smt_read() { return Ok(()) }
 /// let text = "(declare-fun x7_5_2 () (_ BitVec 1))\n";
 /// assert_eq!(smt_lib::read(text)?, [Node::Flag(Flag::ZF)]);
 /// let spaced = "(declare-fun  x7_5_2 () (_ BitVec 1))\n";

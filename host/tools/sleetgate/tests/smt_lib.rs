@@ -1,28 +1,6 @@
-//! Formulas as SMT-LIB text. Where the library does not write or read such
-//! texts, a line says so.
-
-use std::io::Write;
+//! Formulas as SMT-LIB text.
 
 use sleetgate::{Instruction, Lifter, Node, Nodes, Operand, Place, Refusal, smt_lib};
-use sleetgate_sys::{MISSING_SMT_READ, MISSING_SMT_WRITE, has_smt_read, has_smt_write};
-
-/// Whether a call is there; where it is not, this is said.
-fn at_hand(exported: bool, missing: &str) -> bool {
-    assert!(sleetgate_sys::at_hand(), "{}", sleetgate_sys::MISSING);
-    if !exported {
-        // A line that cannot be written is no reason to fail.
-        let _ = writeln!(std::io::stderr(), "left out: {missing}");
-    }
-    exported
-}
-
-fn writes() -> bool {
-    at_hand(has_smt_write(), MISSING_SMT_WRITE)
-}
-
-fn reads() -> bool {
-    at_hand(has_smt_read(), MISSING_SMT_READ)
-}
 
 /// A lift of `fld` of 80 bits, `fadd st(1)` and `fstp` of 32 bits.
 fn lifted() -> Lifter {
@@ -59,18 +37,13 @@ fn sum() -> Lifter {
 
 #[test]
 fn a_sum_is_written() {
-    if writes() {
-        assert_eq!(smt_lib::write(sum().nodes(), 5), Ok(SUM.to_owned()));
-        let first = SUM.lines().next().map(|line| format!("{line}\n"));
-        assert_eq!(smt_lib::write(sum().nodes(), 0).ok(), first);
-    }
+    assert_eq!(smt_lib::write(sum().nodes(), 5), Ok(SUM.to_owned()));
+    let first = SUM.lines().next().map(|line| format!("{line}\n"));
+    assert_eq!(smt_lib::write(sum().nodes(), 0).ok(), first);
 }
 
 #[test]
 fn roots_and_lists_are_refused_in_order() {
-    if !writes() {
-        return;
-    }
     assert_eq!(smt_lib::write(sum().nodes(), 6), Err(Refusal::Root));
     assert_eq!(smt_lib::write(sum().nodes(), u64::MAX), Err(Refusal::Root));
     assert_eq!(smt_lib::write(Nodes::new(&[]), 0), Err(Refusal::Root));
@@ -84,9 +57,6 @@ fn roots_and_lists_are_refused_in_order() {
 /// However long the lines are, more is lent.
 #[test]
 fn a_text_of_long_lines_is_written() {
-    if !writes() {
-        return;
-    }
     let slot = Node::Slot {
         number: u64::MAX,
         bits: 80,
@@ -106,9 +76,6 @@ fn a_text_of_long_lines_is_written() {
 
 #[test]
 fn what_is_written_is_read() {
-    if !(writes() && reads()) {
-        return;
-    }
     let sum = sum();
     let nodes: Vec<Node> = sum.nodes().iter().collect();
     assert_eq!(smt_lib::read(SUM), Ok(nodes));
@@ -129,9 +96,6 @@ fn what_is_written_is_read() {
 
 #[test]
 fn bytes_that_are_no_text_have_a_place() {
-    if !reads() {
-        return;
-    }
     for (bytes, place) in [
         (&b""[..], 0),
         (b"(declare", 8),

@@ -10,7 +10,11 @@
 //! - which instructions were declined, and that what they do is not in it;
 //! - where two constants are one variable at two times;
 //! - what SMT-LIB leaves open, and how arithmetic rounds.
+//!
+//! Such a text is also read back, by the library too: into the nodes that it
+//! says, or the place from which on it is none.
 
+mod listing;
 mod run;
 mod words;
 
@@ -18,6 +22,7 @@ use std::fmt;
 
 use sleetgate::{Refusal, RefusedRecord, Statement, smt_lib};
 
+pub use listing::listing;
 use run::Run;
 
 /// What is asked for.
@@ -40,11 +45,11 @@ pub struct Formula {
     pub words: Vec<String>,
 }
 
-/// Why there is no formula.
+/// Why there is no formula, or no listing.
 #[derive(Debug, Clone, PartialEq, Eq)]
 pub enum Wrong {
-    /// The library is not there, or is an older one.
-    Library(&'static str),
+    /// The library is not there.
+    Library,
     /// The input is empty: the step before this one failed.
     NoRecords,
     /// A record is refused.
@@ -57,12 +62,21 @@ pub enum Wrong {
     Sets { statement: u64, does: &'static str },
     /// The library refuses to write the text.
     Text { refusal: Refusal, nodes: usize },
+    /// What goes by this name is no text: none can follow from this line and
+    /// this byte of it on, where it may end.
+    Syntax {
+        name: String,
+        line: usize,
+        column: usize,
+        shown: String,
+        ends: bool,
+    },
 }
 
 impl fmt::Display for Wrong {
     fn fmt(&self, f: &mut fmt::Formatter<'_>) -> fmt::Result {
         match self {
-            Self::Library(why) => write!(f, "{why}"),
+            Self::Library => write!(f, "{}", sleetgate_sys::MISSING),
             Self::NoRecords => write!(f, "there are no records: the step before this one failed"),
             Self::Record(refused) => write!(f, "the records are {refused}"),
             Self::Place { place, known } => {
@@ -92,6 +106,21 @@ impl fmt::Display for Wrong {
                     "the text is {refusal}; {nodes} nodes were lifted, from 0 on"
                 )
             }
+            Self::Syntax {
+                name,
+                line,
+                column,
+                shown,
+                ends,
+            } => {
+                let why = if *ends {
+                    "the text stops early"
+                } else {
+                    "no text can follow from here"
+                };
+                writeln!(f, "{name}:{line}:{column}: {why}")?;
+                write!(f, "{shown}\n{:>column$}", '^')
+            }
         }
     }
 }
@@ -104,10 +133,7 @@ impl std::error::Error for Wrong {}
 /// Why there is none.
 pub fn formula(records: &[u8], root: Root) -> Result<Formula, Wrong> {
     if !sleetgate_sys::at_hand() {
-        return Err(Wrong::Library(sleetgate_sys::MISSING));
-    }
-    if !sleetgate_sys::has_smt_write() {
-        return Err(Wrong::Library(sleetgate_sys::MISSING_SMT_WRITE));
+        return Err(Wrong::Library);
     }
     let run = Run::of(records)?;
     let root = node(&run, root)?;

@@ -1,10 +1,11 @@
 //! The command `x87smt`: see [`HELP`].
 
 use std::env;
+use std::fs;
 use std::io::{self, Read, Write};
 use std::process::ExitCode;
 
-use x87smt::{Root, formula};
+use x87smt::{Root, formula, listing};
 
 /// What `--help` prints.
 const HELP: &str = "\
@@ -13,6 +14,7 @@ x87smt: one formula of x87 code as SMT-LIB text
     x87smt --place N < RECORDS > TEXT
     x87smt --statement N < RECORDS > TEXT
     x87smt --node N < RECORDS > TEXT
+    x87smt --read [FILE] < TEXT
 
 Reads the records that x87lift reads, as x87rec writes them, lifts them and
 writes what one node needs as declarations, definitions and assertions.
@@ -22,20 +24,26 @@ writes what one node needs as declarations, definitions and assertions.
     --statement N        what statement N stores or sets, as x87lift numbers
                          the statements
     --node N             node N, as x87lift numbers the nodes
+    --read [FILE]        read such a text, from FILE or from standard input, and
+                         list its nodes as x87lift does, numbered from 0, the
+                         root last; where it is none, say the line and the byte
+                         from which on no text can follow
     --help, --version
 
 The text has no other command and no comment. A question to a solver goes
 behind it, for example (check-sat); cvc5 wants (set-logic ALL) before it, and
 --fp-exp. What a reader has to know is said on standard error: what each
 constant stands for, what was declined, and what is left open. The status is 0
-if the text was written, 1 if the records, the node or a file are wrong, 2 for
-a wrong argument.
+if the text was written or read, 1 if the records, the node, the text or a file
+are wrong, 2 for a wrong argument.
 ";
 
 /// What is asked for.
 enum Asked {
     Print(String),
     Text(Root),
+    /// The nodes of a text in a file, or on standard input.
+    Nodes(Option<String>),
 }
 
 fn main() -> ExitCode {
@@ -47,6 +55,7 @@ fn main() -> ExitCode {
     let written = match asked(&words) {
         Some(Asked::Print(text)) => write(&text),
         Some(Asked::Text(root)) => run(root),
+        Some(Asked::Nodes(file)) => read(file.as_deref()),
         None => {
             say("wrong arguments; x87smt --help says more");
             return ExitCode::from(2);
@@ -55,7 +64,7 @@ fn main() -> ExitCode {
     match written {
         Ok(()) => ExitCode::SUCCESS,
         Err(why) => {
-            say(&why);
+            why.lines().for_each(say);
             ExitCode::FAILURE
         }
     }
@@ -69,6 +78,8 @@ fn asked(words: &[&str]) -> Option<Asked> {
             let version = format!("x87smt {}\n", env!("CARGO_PKG_VERSION"));
             return Some(Asked::Print(version));
         }
+        ["--read"] => return Some(Asked::Nodes(None)),
+        ["--read", file] => return Some(Asked::Nodes(Some((*file).to_owned()))),
         ["--place", number] => Root::Place(number.parse().ok()?),
         ["--statement", number] => Root::Statement(number.parse().ok()?),
         ["--node", number] => Root::Node(number.parse().ok()?),
@@ -82,10 +93,27 @@ fn say(why: &str) {
     let _ = writeln!(io::stderr(), "x87smt: {why}");
 }
 
+/// What is called standard input.
+const INPUT: &str = "standard input";
+
+fn input() -> Result<Vec<u8>, String> {
+    let mut bytes = Vec::new();
+    let read = io::stdin().read_to_end(&mut bytes);
+    read.map_err(|e| format!("{INPUT}: {e}"))?;
+    Ok(bytes)
+}
+
+fn read(file: Option<&str>) -> Result<(), String> {
+    let text = match file {
+        Some(name) => fs::read(name).map_err(|e| format!("{name}: {e}"))?,
+        None => input()?,
+    };
+    let listing = listing(file.unwrap_or(INPUT), &text);
+    write(&listing.map_err(|wrong| wrong.to_string())?)
+}
+
 fn run(root: Root) -> Result<(), String> {
-    let mut records = Vec::new();
-    let read = io::stdin().read_to_end(&mut records);
-    read.map_err(|e| format!("standard input: {e}"))?;
+    let records = input()?;
     let formula = formula(&records, root).map_err(|wrong| wrong.to_string())?;
     write(&formula.text)?;
     formula.words.iter().for_each(|words| say(words));

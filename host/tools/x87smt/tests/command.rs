@@ -1,29 +1,14 @@
-//! The command `x87smt` as a process. Where the library writes no SMT-LIB
-//! text, a line says so.
+//! The command `x87smt` as a process.
 
 use std::ffi::OsStr;
 use std::fs::File;
-use std::io::{self, Write};
+use std::io::Write;
 use std::os::unix::ffi::OsStrExt;
 use std::process::{Command, Output, Stdio};
 
 use sleetgate::{
     Instruction, Lifter, MOST_BYTES, Operand, Place, smt_lib, write_end, write_record,
 };
-
-/// Whether the library writes texts; a line says so where it does not.
-fn writes() -> bool {
-    assert!(sleetgate_sys::at_hand(), "{}", sleetgate_sys::MISSING);
-    if !sleetgate_sys::has_smt_write() {
-        // A line that cannot be written is no reason to fail.
-        let _ = writeln!(
-            io::stderr(),
-            "left out: {}",
-            sleetgate_sys::MISSING_SMT_WRITE
-        );
-    }
-    sleetgate_sys::has_smt_write()
-}
 
 /// Memory of a width at an address, without a slot.
 fn memory(width: u16, address: u32) -> Operand {
@@ -101,8 +86,9 @@ fn help_and_version_go_to_standard_output() {
 
 #[test]
 fn wrong_arguments_end_with_2() {
-    let wrong: [&[&str]; 7] = [
+    let wrong: [&[&str]; 8] = [
         &[],
+        &["--read", "one", "two"],
         &["--nosuch"],
         &["--place"],
         &["--place", "-1"],
@@ -130,9 +116,6 @@ fn an_argument_may_be_any_bytes() {
 /// The three ways to ask for a node give the text that the library writes.
 #[test]
 fn the_text_is_the_library_s() {
-    if !writes() {
-        return;
-    }
     let names: [(&str, &[Operand]); 3] = [
         ("fld", &[memory(32, 7)]),
         ("fadd", &[Operand::st(1)]),
@@ -155,9 +138,6 @@ fn the_text_is_the_library_s() {
 
 #[test]
 fn each_constant_is_explained() {
-    if !writes() {
-        return;
-    }
     let input = records(&[
         ("fld", &[memory(80, 7)]),
         ("faddp", &[]),
@@ -185,9 +165,6 @@ fn each_constant_is_explained() {
 /// What statements say of flags and of the status word is not in a text.
 #[test]
 fn who_set_a_flag_is_said() {
-    if !writes() {
-        return;
-    }
     let compare: (&str, &[Operand]) = ("fcomi", &[Operand::st(0), Operand::st(1)]);
     let moves: (&str, &[Operand]) = ("fcmove", &[Operand::st(0), Operand::st(1)]);
     let input = records(&[compare, moves]);
@@ -212,9 +189,6 @@ fn who_set_a_flag_is_said() {
 
 #[test]
 fn declines_are_said_and_where_a_formula_begins_behind_one() {
-    if !writes() {
-        return;
-    }
     let input = records(&[
         ("fld", &[memory(32, 1)]),
         ("fprem", &[]),
@@ -236,9 +210,6 @@ fn declines_are_said_and_where_a_formula_begins_behind_one() {
 
 #[test]
 fn two_times_of_one_variable_are_two_constants() {
-    if !writes() {
-        return;
-    }
     let input = records(&[("fld", &[slot(3, 7)]), ("fadd", &[slot(3, 7)])]);
     let (_, said) = written(&["--place", "0"], &input);
     let twice = "x0_3_3 and x4_3_3 are both slot 3, at two times: to a solver they are two \
@@ -254,9 +225,6 @@ fn two_times_of_one_variable_are_two_constants() {
 
 #[test]
 fn what_is_not_there_is_refused() {
-    if !writes() {
-        return;
-    }
     let input = records(&[("fld1", &[])]);
     let place = refused(&["--place", "1"], &input);
     assert!(
@@ -279,9 +247,6 @@ fn what_is_not_there_is_refused() {
 
 #[test]
 fn wrong_records_are_refused_with_their_place() {
-    if !writes() {
-        return;
-    }
     let node = ["--node", "0"];
     assert!(refused(&node, b"").contains("the step before this one failed"));
     let whole = records(&[("fld1", &[])]);
@@ -300,11 +265,89 @@ fn wrong_records_are_refused_with_their_place() {
     assert!(full.contains("refused (7)"), "{full}");
 }
 
+/// A text of `fld` of 32 bits and `fst` of 64, and its nodes.
+const TEXT: &str = "\
+(declare-fun x0_2_0 () (_ BitVec 32))
+(declare-fun x5_26_4 () (_ BitVec 64))
+(define-fun n1 () (_ FloatingPoint 8 24) ((_ to_fp 8 24) x0_2_0))
+(define-fun n4 () (_ FloatingPoint 11 53) ((_ to_fp 11 53) RNE n1))
+(assert (= ((_ to_fp 11 53) x5_26_4) n4))
+";
+const NODES: &str = "\
+n 0 2 0 32 0
+n 1 25 0 0 2072
+n 2 29 1 0 2869
+n 3 26 2 0 0
+";
+
+#[test]
+fn a_text_is_read_from_standard_input_or_a_file() {
+    let listed = (Some(0), NODES.to_owned(), String::new());
+    assert_eq!(told(&["--read"], TEXT.as_bytes()), listed);
+    let file = std::env::temp_dir().join(format!("x87smt-{}.smt2", std::process::id()));
+    std::fs::write(&file, TEXT).expect("it is written");
+    let name = file.to_str().expect("a name");
+    assert_eq!(told(&["--read", name], b""), listed);
+    std::fs::write(&file, "(check-sat)\n").expect("it is written");
+    let wrong = refused(&["--read", name], b"");
+    assert!(
+        wrong.contains(&format!("x87smt: {name}:1:2: no text")),
+        "{wrong}"
+    );
+    std::fs::remove_file(&file).expect("it is removed");
+    let none = refused(&["--read", name], b"");
+    assert!(none.starts_with(&format!("x87smt: {name}: ")), "{none}");
+}
+
+/// What is written of records is read: as many nodes as lines, but for the
+/// assertions.
+#[test]
+fn what_is_written_is_read() {
+    let input = records(&[("fld", &[memory(80, 7)]), ("faddp", &[])]);
+    let (text, _) = written(&["--place", "0"], &input);
+    let (listing, said) = written(&["--read"], text.as_bytes());
+    assert_eq!(said, [""; 0]);
+    let lines = text.lines().filter(|line| !line.starts_with("(assert"));
+    assert_eq!(listing.lines().count(), lines.count());
+}
+
+#[test]
+fn what_is_no_text_is_refused_with_its_line() {
+    let second = TEXT.find("x5").expect("it is there") + 2;
+    for (text, said) in [
+        (
+            TEXT.replace("RNE n1", "RNE  n1"),
+            "standard input:4:64: no text can follow from here\n\
+             (define-fun n4 () (_ FloatingPoint 11 53) ((_ to_fp 11 53) RNE  n1))\n\
+             \x20                                                              ^\n",
+        ),
+        (
+            format!("{TEXT}(check-sat)\n"),
+            "standard input:6:1: no text can follow from here\n(check-sat)\n^\n",
+        ),
+        (
+            TEXT[..second].to_owned(),
+            "standard input:2:16: the text stops early\n(declare-fun x5\n\x20              ^\n",
+        ),
+        (
+            "(de\t\u{e9}".to_owned(),
+            "standard input:1:4: no text can follow from here\n(de???\n\x20  ^\n",
+        ),
+        (
+            String::new(),
+            "standard input:1:1: the text stops early\n\n^\n",
+        ),
+    ] {
+        let said: String = said
+            .lines()
+            .map(|line| format!("x87smt: {line}\n"))
+            .collect();
+        assert_eq!(refused(&["--read"], text.as_bytes()), said);
+    }
+}
+
 #[test]
 fn what_cannot_be_written_ends_with_1() {
-    if !writes() {
-        return;
-    }
     let full = || Stdio::from(File::create("/dev/full").expect("it is there"));
     let done = run(&["--place", "0"], &records(&[("fld1", &[])]), full());
     assert_eq!(done.status.code(), Some(1));

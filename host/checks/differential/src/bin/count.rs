@@ -17,8 +17,8 @@ fn main() -> ExitCode {
 
 #[cfg(not(no_oracle))]
 fn main() -> ExitCode {
-    if !sleetgate_sys::has_lift() {
-        eprintln!("{}", sleetgate_sys::MISSING_LIFT);
+    if !sleetgate_sys::at_hand() {
+        eprintln!("{}", sleetgate_sys::MISSING);
         return ExitCode::FAILURE;
     }
     differential::tell_unmeasured();

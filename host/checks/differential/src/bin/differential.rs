@@ -1,6 +1,7 @@
 //! `differential CALL [SIZE] [SEED]`: compare the static library with the
-//! Rust; for `records`, `checks`, `texts` and `text-reads` with their rules
-//! said plainly, for `record-lifts` with the two calls that it stands for,
+//! Rust; for `records`, `checks`, `texts`, `text-reads` and `every-text` with
+//! their rules said plainly, for `every-text` also with the list of every text
+//! of small universes, for `record-lifts` with the two calls that it stands for,
 //! for `z3` and `cvc5` with that solver, for `images` with the processor;
 //! for `text-z3` and `text-cvc5` the texts of formulas with their values, by
 //! that solver. `x87lift` is the program, compared with the plain reader and
@@ -12,15 +13,15 @@ use std::time::Instant;
 
 use differential::report::Report;
 use differential::solver::Solver;
-use differential::subject::{Library, Plain, Texts};
+use differential::subject::Library;
 use differential::{
-    NO_ORACLE, checks, classify, images, lift, listings, oracle, processor, record_lifts, records,
-    text_reads, text_values, texts, values,
+    NO_ORACLE, checks, classify, every_text, images, lift, listings, oracle, processor,
+    record_lifts, records, text_reads, text_values, texts, values,
 };
 use program::Program;
 
 const USAGE: &str = "differential classify|records|lift|record-lifts|checks|z3|cvc5|images|texts|\
-                     text-reads|text-z3|text-cvc5|x87lift [SIZE] [SEED]";
+                     text-reads|every-text|text-z3|text-cvc5|x87lift [SIZE] [SEED]";
 
 /// Sizes of the full runs.
 const CLASSIFY: u64 = 3_500_000;
@@ -71,15 +72,9 @@ fn compared(
     seed: u64,
 ) -> Result<Option<Report>, Option<&'static str>> {
     let or = |full: u64| size.unwrap_or(full);
-    let lift = sleetgate_sys::has_lift();
-    let (writes, reads) = (
-        sleetgate_sys::has_smt_write(),
-        sleetgate_sys::has_smt_read(),
-    );
     Ok(match call {
         "classify" => with_oracle(|| classify::run(&Library, or(CLASSIFY), seed)),
         "records" => Some(records::run(&Library, or(RECORDS), seed)),
-        "lift" if !lift => return Err(Some(sleetgate_sys::MISSING_LIFT)),
         "lift" => with_oracle(|| lift::run(&Library, or(SEQUENCES), seed)),
         "record-lifts" => Some(record_lifts::run(&Library, or(RECORD_LIFTS), seed)),
         "checks" => Some(checks::run(&Library, or(CHECKS), seed)),
@@ -92,10 +87,9 @@ fn compared(
             let run = || listings::run(&program, or(LISTINGS), seed);
             with_oracle(|| run().unwrap_or_else(|e| panic!("x87lift: {e}")))
         }
-        "texts" if !writes => return Err(Some(sleetgate_sys::MISSING_SMT_WRITE)),
-        "text-reads" if !reads => return Err(Some(sleetgate_sys::MISSING_SMT_READ)),
         "texts" => Some(texts::run(&Library, or(TEXTS), seed)),
         "text-reads" => Some(text_reads::run(&Library, or(TEXT_READS), seed)),
+        "every-text" => Some(every_text::run(&Library, or(every_text::CASES), seed)),
         "text-z3" => with_texts(Solver::Z3, or(TEXT_VALUES), seed),
         "text-cvc5" => with_texts(Solver::Cvc5, or(TEXT_VALUES), seed),
         "z3" => with_solver(Solver::Z3, or(LISTS), seed),
@@ -129,23 +123,14 @@ fn with_solver(solver: Solver, size: u64, seed: u64) -> Option<Report> {
     Some(report.unwrap_or_else(|e| panic!("{}: {e}", solver.name())))
 }
 
-/// The values of texts by a solver. Where the library writes no texts, those
-/// are put to it that are said plainly.
+/// The values of texts by a solver: where it cannot be run, only a line that
+/// says so.
 fn with_texts(solver: Solver, size: u64, seed: u64) -> Option<Report> {
     if !solver.at_hand() {
         println!("{}", solver.missing());
         return None;
     }
-    let subject: &dyn Texts = if sleetgate_sys::has_smt_write() {
-        &Library
-    } else {
-        println!(
-            "{}: the plain writer's texts are read",
-            sleetgate_sys::MISSING_SMT_WRITE
-        );
-        &Plain
-    };
-    let report = text_values::run(subject, &Library, solver, size, seed);
+    let report = text_values::run(&Library, &Library, solver, size, seed);
     Some(report.unwrap_or_else(|e| panic!("{}: {e}", solver.name())))
 }
 

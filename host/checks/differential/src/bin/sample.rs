@@ -49,14 +49,10 @@ fn write() -> io::Result<()> {
 /// The files whose answers are the Rust's.
 #[cfg(not(no_oracle))]
 fn of_the_rust() -> Vec<(&'static str, Vec<u8>)> {
-    let mut files = vec![("instructions.bin", sample::instructions())];
-    // A stored lift that the library cannot answer would fail the tests.
-    if sleetgate_sys::has_lift() {
-        files.push(("lifts.bin", differential::sample_lifts::lifts()));
-    } else {
-        left_out("lifts.bin, until the library exports x87_lift");
-    }
-    files
+    vec![
+        ("instructions.bin", sample::instructions()),
+        ("lifts.bin", differential::sample_lifts::lifts()),
+    ]
 }
 
 #[cfg(no_oracle)]

@@ -1,10 +1,9 @@
 //! The plain reader in the whole universe, where not every text can be
 //! listed.
 
+use plain::every_text::damaged;
 use plain::smt::{Universe, numbered, text, write};
 use plain::sorts::sorts;
-
-use crate::damaged::damaged;
 
 /// A list of all kinds.
 const ROWS: [[u64; 4]; 31] = [

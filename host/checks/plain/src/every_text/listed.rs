@@ -1,8 +1,8 @@
 //! Every text of a small universe, by the definition of the subset: all
 //! lists of it that pass the check, with all marks that are kept.
 
-use plain::smt::{Universe, arity, is_declared, text};
-use plain::sorts::{Sort, WIDEST, sort};
+use crate::smt::{Universe, arity, is_declared, text};
+use crate::sorts::{Sort, WIDEST, sort};
 
 /// A row that stands where a node is not marked.
 const UNMARKED: [u64; 4] = [4, 0, 0, 0];
@@ -11,6 +11,7 @@ const UNMARKED: [u64; 4] = [4, 0, 0, 0];
 pub struct Texts(pub Vec<String>);
 
 impl Texts {
+    #[must_use]
     pub fn of(universe: &Universe) -> Self {
         let mut lister = Lister {
             universe,
@@ -29,6 +30,7 @@ impl Texts {
 
     /// So many of the texts, half of them with a node of kind 26 where there
     /// are such.
+    #[must_use]
     pub fn sample(&self, size: usize) -> Vec<&str> {
         let all = self.0.iter().map(String::as_str);
         let owing = all.clone().filter(|text| text.contains("_26_"));
@@ -38,6 +40,7 @@ impl Texts {
     }
 
     /// Nothing where the bytes are a text; else how many of them begin one.
+    #[must_use]
     pub fn place(&self, bytes: &[u8]) -> Option<usize> {
         let at = self.0.partition_point(|text| text.as_bytes() < bytes);
         let neighbours = &self.0[at.saturating_sub(1)..(at + 1).min(self.0.len())];

@@ -7,6 +7,7 @@ const BYTES: &[u8] = b"0123456789_nx#() Bdaf\nz";
 /// A text cut at every length, with every byte replaced, left out or doubled,
 /// with lines exchanged, left out or doubled, and the first part of it with
 /// the last part of another.
+#[must_use]
 pub fn damaged(text: &[u8], other: &[u8]) -> Vec<Vec<u8>> {
     let mut all: Vec<Vec<u8>> = (0..text.len()).map(|cut| text[..cut].to_vec()).collect();
     for at in 0..text.len() {

@@ -2,8 +2,8 @@
 
 use std::ops::{Range, RangeInclusive};
 
-use plain::smt::Universe;
-use plain::sorts::Format;
+use crate::smt::Universe;
+use crate::sorts::Format;
 
 const SINGLE: Format = Format::SINGLE;
 const DOUBLE: Format = Format::DOUBLE;
@@ -42,7 +42,8 @@ fn variables(numbers: RangeInclusive<u64>) -> Universe {
 type Named = (&'static str, Universe);
 
 /// The universes.
-pub fn all() -> Vec<Named> {
+#[must_use]
+pub fn universes() -> Vec<Named> {
     let parts = [owing(), arithmetic(), bits()];
     parts.into_iter().flatten().collect()
 }
