@@ -42,7 +42,16 @@ returns : tie.Need-returns
 returns c = let h = rw (c .before .before .before .r2 .given .1) at (c .before .before .before .before .before .before .before .before .before .before .before .before .before .before .before .before .before .run .ensures) in too-many _ h _ _ (c .before .room .ensures) (c .if1 .taken)
 
 rows-requires : tie.Need-rows-requires
-rows-requires c κs = let h = rw (c .before .before .before .before .before .before .before .before .before .r2 .given .1) at (c .before .before .before .before .before .before .before .before .before .before .before .before .before .before .before .before .before .before .before .before .before .before .before .run .ensures) in let k = c .before .before .before .before .before .before .before .before .before .before .before .before .before .before .before .before .before .before .before .before .before .before .before .run .kept in let s = k .1 .1 .1 .1 .1 .0 ∙ c .before .before .before .before .before .before .before .before .before .before .before .before .before .before .before .before .before .before .before .before .before .before .before .before .before .before .before .before .before .before .before .before .before .before .before .before .before .before .pre .wide .sorts in (let m = c .before .before .before .before .before .before .before .before .before .before .before .before .before .before .before .before .before .before .before .before .before .before .before .before .before .before .before .before .before .before .before .before .before .before .before .before .before .before .pre .most in omega arith, fits-in _ h _ _ (c .before .before .before .before .before .before .before .room .ensures) (c .before .before .before .before .before .before .if1 .left) _ (k .1 .0 ∙ sym s))
+rows-requires c κs =
+    let c6 = c .before .before .before .before .before .before in
+    let c7 = c6 .before in
+    let c9 = c7 .before .before in
+    let c23 = c9 .before .before .before .before .before .before .before .before .before .before .before .before .before .before in
+    let c38 = c23 .before .before .before .before .before .before .before .before .before .before .before .before .before .before .before in
+    let h = rw (c9 .r2 .given .1) at (c23 .run .ensures) in
+    let k = c23 .run .kept in
+    let s = k .1 .1 .1 .1 .1 .0 ∙ c38 .pre .wide .sorts in
+    (let m = c38 .pre .most in omega arith, fits-in _ h _ _ (c7 .room .ensures) (c6 .if1 .left) _ (k .1 .0 ∙ sym s))
 
 same-length-7 : tie.Need-same-length-7
 same-length-7 c = search needs
@@ -63,7 +72,11 @@ same-length-12 : tie.Need-same-length-12
 same-length-12 c = search needs
 
 returns-2 : tie.Need-returns-2
-returns-2 c = let h = rw (c .enum-told .given .1) at (c .before .before .before .before .before .before .before .before .before .before .before .before .before .before .run .ensures) in let k = c .before .before .before .before .before .before .before .before .before .before .before .before .before .before .run .kept .1 .0 in (omega arith, refl)
+returns-2 c =
+    let c14 = c .before .before .before .before .before .before .before .before .before .before .before .before .before .before in
+    let h = rw (c .enum-told .given .1) at (c14 .run .ensures) in
+    let k = c14 .run .kept .1 .0 in
+    (omega arith, refl)
 
 same-length-13 : tie.Need-same-length-13
 same-length-13 c = search needs
@@ -108,7 +121,14 @@ same-length-25 : tie.Need-same-length-25
 same-length-25 c = search needs
 
 returns-4 : tie.Need-returns-4
-returns-4 c = let h = rw (c .before .before .before .before .before .before .before .before .before .before .before .before .before .before .r2 .given .1) at (c .before .before .before .before .before .before .before .before .before .before .before .before .before .before .before .before .before .before .before .before .before .before .before .before .before .before .before .before .run .ensures) in filled _ h _ _ (c .before .before .before .before .before .before .before .before .before .before .before .before .room .ensures) (c .before .before .before .before .before .before .before .before .before .before .before .if1 .left) _ (c .before .before .before .before .rows .ensures)
+returns-4 c =
+    let c4 = c .before .before .before .before in
+    let c11 = c4 .before .before .before .before .before .before .before in
+    let c12 = c11 .before in
+    let c14 = c12 .before .before in
+    let c28 = c14 .before .before .before .before .before .before .before .before .before .before .before .before .before .before in
+    let h = rw (c14 .r2 .given .1) at (c28 .run .ensures) in
+    filled _ h _ _ (c12 .room .ensures) (c11 .if1 .left) _ (c4 .rows .ensures)
 
 pub over-spec : {M : Type 1} → statement M
 over-spec =

@@ -40,64 +40,153 @@ enum-known-t : tie.Need-enum-known-t Inv-loop μ-loop
 enum-known-t c = search needs
 
 add-t31 : tie.Need-add-t31 Inv-loop μ-loop
-add-t31 c = let g = c .before .before .before .before .before .before .before .before .before .before .before .before .before .before .before .before .before .before .before .before .good in let L = c .before .before .before .before .before .before .before .before .before .before .loop in let k = c .before .before .before .take .ensures .is (L .fb) (L .fc) in omega (arith, within (L .inv) _ k _ (c .before .before .before .before .before .before .before .before .before .loop-test .taken) (c .before .t .given .1))
+add-t31 c =
+    let c3 = c .before .before .before in
+    let c9 = c3 .before .before .before .before .before .before in
+    let c10 = c9 .before in
+    let c20 = c10 .before .before .before .before .before .before .before .before .before .before in
+    let g = c20 .good in
+    let L = c10 .loop in
+    let k = c3 .take .ensures .is (L .fb) (L .fc) in
+    omega (arith, within (L .inv) _ k _ (c9 .loop-test .taken) (c .before .t .given .1))
 
 same-length : tie.Need-same-length Inv-loop μ-loop
 same-length c = c .before .before .before .before .before .before .before .before .before .before .loop .inv .wide .kinds
 
 same-length-2 : tie.Need-same-length-2 Inv-loop μ-loop
-same-length-2 c = c .before .before .before .before .before .before .before .before .before .before .loop .inv .wide .firsts ∙ sym (c .before .before .before .before .before .before .before .before .before .before .before .before .before .before .before .before .before .before .before .before .pre .wide .firsts)
+same-length-2 c =
+    let c10 = c .before .before .before .before .before .before .before .before .before .before in
+    let c20 = c10 .before .before .before .before .before .before .before .before .before .before in
+    c10 .loop .inv .wide .firsts ∙ sym (c20 .pre .wide .firsts)
 
 same-length-3 : tie.Need-same-length-3 Inv-loop μ-loop
-same-length-3 c = c .before .before .before .before .before .before .before .before .before .before .loop .inv .wide .seconds ∙ sym (c .before .before .before .before .before .before .before .before .before .before .before .before .before .before .before .before .before .before .before .before .pre .wide .seconds)
+same-length-3 c =
+    let c10 = c .before .before .before .before .before .before .before .before .before .before in
+    let c20 = c10 .before .before .before .before .before .before .before .before .before .before in
+    c10 .loop .inv .wide .seconds ∙ sym (c20 .pre .wide .seconds)
 
 same-length-4 : tie.Need-same-length-4 Inv-loop μ-loop
-same-length-4 c = c .before .before .before .before .before .before .before .before .before .before .loop .inv .wide .thirds ∙ sym (c .before .before .before .before .before .before .before .before .before .before .before .before .before .before .before .before .before .before .before .before .pre .wide .thirds)
+same-length-4 c =
+    let c10 = c .before .before .before .before .before .before .before .before .before .before in
+    let c20 = c10 .before .before .before .before .before .before .before .before .before .before in
+    c10 .loop .inv .wide .thirds ∙ sym (c20 .pre .wide .thirds)
 
 same-length-5 : tie.Need-same-length-5 Inv-loop μ-loop
-same-length-5 c = c .before .before .before .before .before .before .before .before .before .before .loop .inv .wide .sorts ∙ sym (c .before .before .before .before .before .before .before .before .before .before .before .before .before .before .before .before .before .before .before .before .pre .wide .sorts)
+same-length-5 c =
+    let c10 = c .before .before .before .before .before .before .before .before .before .before in
+    let c20 = c10 .before .before .before .before .before .before .before .before .before .before in
+    c10 .loop .inv .wide .sorts ∙ sym (c20 .pre .wide .sorts)
 
 same-length-6 : tie.Need-same-length-6 Inv-loop μ-loop
-same-length-6 c = c .before .before .before .before .before .before .before .before .before .before .loop .inv .wide .lowest ∙ sym (c .before .before .before .before .before .before .before .before .before .before .before .before .before .before .before .before .before .before .before .before .pre .wide .lowest)
+same-length-6 c =
+    let c10 = c .before .before .before .before .before .before .before .before .before .before in
+    let c20 = c10 .before .before .before .before .before .before .before .before .before .before in
+    c10 .loop .inv .wide .lowest ∙ sym (c20 .pre .wide .lowest)
 
 returns : tie.Need-returns Inv-loop μ-loop
-returns c = let L = c .before .before .before .before .before .before .before .before .before .before .loop in let k = c .before .before .before .take .ensures .is (L .fb) (L .fc) in stops (L .inv) _ k _ (c .before .before .before .before .before .before .before .before .before .loop-test .taken) (c .before .t .given .1)
+returns c =
+    let c3 = c .before .before .before in
+    let c9 = c3 .before .before .before .before .before .before in
+    let c10 = c9 .before in
+    let L = c10 .loop in
+    let k = c3 .take .ensures .is (L .fb) (L .fc) in
+    stops (L .inv) _ k _ (c9 .loop-test .taken) (c .before .t .given .1)
 
 enum-known-t-2 : tie.Need-enum-known-t-2 Inv-loop μ-loop
 enum-known-t-2 c = search needs
 
 next-requires : tie.Need-next-requires Inv-loop μ-loop
-next-requires c κs = let L = c .before .before .before .before .before .before .before .before .before .before .before .before .before .before .before .before .loop in let k = c .before .before .before .before .before .before .before .before .before .take .ensures .is (L .fb) (L .fc) in ready (L .inv) _ k _ _ (c .before .before .before .before .before .before .before .t2 .given .1)
+next-requires c κs =
+    let c7 = c .before .before .before .before .before .before .before in
+    let c9 = c7 .before .before in
+    let c16 = c9 .before .before .before .before .before .before .before in
+    let L = c16 .loop in
+    let k = c9 .take .ensures .is (L .fb) (L .fc) in
+    ready (L .inv) _ k _ _ (c7 .t2 .given .1)
 
 same-length-7 : tie.Need-same-length-7 Inv-loop μ-loop
-same-length-7 c = c .before .before .before .before .before .before .before .before .before .before .before .before .before .before .before .before .next .kept .0 ∙ c .before .before .before .before .before .before .before .before .before .before .before .before .before .before .before .before .before .before .before .before .before .before .before .before .before .before .before .before .before .before .before .before .before .loop .inv .wide .kinds
+same-length-7 c =
+    let c16 = c .before .before .before .before .before .before .before .before .before .before .before .before .before .before .before .before in
+    let c33 = c16 .before .before .before .before .before .before .before .before .before .before .before .before .before .before .before .before .before in
+    c16 .next .kept .0 ∙ c33 .loop .inv .wide .kinds
 
 same-length-8 : tie.Need-same-length-8 Inv-loop μ-loop
-same-length-8 c = c .before .before .before .before .before .before .before .before .before .before .before .before .before .before .before .before .next .kept .1 .0 ∙ c .before .before .before .before .before .before .before .before .before .before .before .before .before .before .before .before .before .before .before .before .before .before .before .before .before .before .before .before .before .before .before .before .before .loop .inv .wide .firsts ∙ sym (c .before .before .before .before .before .before .before .before .before .before .before .before .before .before .before .before .before .before .before .before .before .before .before .before .before .before .before .before .before .before .before .before .before .before .before .before .before .before .before .before .before .before .before .pre .wide .firsts)
+same-length-8 c =
+    let c16 = c .before .before .before .before .before .before .before .before .before .before .before .before .before .before .before .before in
+    let c33 = c16 .before .before .before .before .before .before .before .before .before .before .before .before .before .before .before .before .before in
+    let c43 = c33 .before .before .before .before .before .before .before .before .before .before in
+    c16 .next .kept .1 .0 ∙ c33 .loop .inv .wide .firsts ∙ sym (c43 .pre .wide .firsts)
 
 same-length-9 : tie.Need-same-length-9 Inv-loop μ-loop
-same-length-9 c = c .before .before .before .before .before .before .before .before .before .before .before .before .before .before .before .before .next .kept .1 .1 .0 ∙ c .before .before .before .before .before .before .before .before .before .before .before .before .before .before .before .before .before .before .before .before .before .before .before .before .before .before .before .before .before .before .before .before .before .loop .inv .wide .seconds ∙ sym (c .before .before .before .before .before .before .before .before .before .before .before .before .before .before .before .before .before .before .before .before .before .before .before .before .before .before .before .before .before .before .before .before .before .before .before .before .before .before .before .before .before .before .before .pre .wide .seconds)
+same-length-9 c =
+    let c16 = c .before .before .before .before .before .before .before .before .before .before .before .before .before .before .before .before in
+    let c33 = c16 .before .before .before .before .before .before .before .before .before .before .before .before .before .before .before .before .before in
+    let c43 = c33 .before .before .before .before .before .before .before .before .before .before in
+    c16 .next .kept .1 .1 .0 ∙ c33 .loop .inv .wide .seconds ∙ sym (c43 .pre .wide .seconds)
 
 same-length-10 : tie.Need-same-length-10 Inv-loop μ-loop
-same-length-10 c = c .before .before .before .before .before .before .before .before .before .before .before .before .before .before .before .before .next .kept .1 .1 .1 .0 ∙ c .before .before .before .before .before .before .before .before .before .before .before .before .before .before .before .before .before .before .before .before .before .before .before .before .before .before .before .before .before .before .before .before .before .loop .inv .wide .thirds ∙ sym (c .before .before .before .before .before .before .before .before .before .before .before .before .before .before .before .before .before .before .before .before .before .before .before .before .before .before .before .before .before .before .before .before .before .before .before .before .before .before .before .before .before .before .before .pre .wide .thirds)
+same-length-10 c =
+    let c16 = c .before .before .before .before .before .before .before .before .before .before .before .before .before .before .before .before in
+    let c33 = c16 .before .before .before .before .before .before .before .before .before .before .before .before .before .before .before .before .before in
+    let c43 = c33 .before .before .before .before .before .before .before .before .before .before in
+    c16 .next .kept .1 .1 .1 .0 ∙ c33 .loop .inv .wide .thirds ∙ sym (c43 .pre .wide .thirds)
 
 same-length-11 : tie.Need-same-length-11 Inv-loop μ-loop
-same-length-11 c = c .before .before .before .before .before .before .before .before .before .before .before .before .before .before .before .before .next .kept .1 .1 .1 .1 .0 ∙ c .before .before .before .before .before .before .before .before .before .before .before .before .before .before .before .before .before .before .before .before .before .before .before .before .before .before .before .before .before .before .before .before .before .loop .inv .wide .sorts ∙ sym (c .before .before .before .before .before .before .before .before .before .before .before .before .before .before .before .before .before .before .before .before .before .before .before .before .before .before .before .before .before .before .before .before .before .before .before .before .before .before .before .before .before .before .before .pre .wide .sorts)
+same-length-11 c =
+    let c16 = c .before .before .before .before .before .before .before .before .before .before .before .before .before .before .before .before in
+    let c33 = c16 .before .before .before .before .before .before .before .before .before .before .before .before .before .before .before .before .before in
+    let c43 = c33 .before .before .before .before .before .before .before .before .before .before in
+    c16 .next .kept .1 .1 .1 .1 .0 ∙ c33 .loop .inv .wide .sorts ∙ sym (c43 .pre .wide .sorts)
 
 same-length-12 : tie.Need-same-length-12 Inv-loop μ-loop
-same-length-12 c = c .before .before .before .before .before .before .before .before .before .before .before .before .before .before .before .before .next .kept .1 .1 .1 .1 .1 .0 ∙ c .before .before .before .before .before .before .before .before .before .before .before .before .before .before .before .before .before .before .before .before .before .before .before .before .before .before .before .before .before .before .before .before .before .loop .inv .wide .lowest ∙ sym (c .before .before .before .before .before .before .before .before .before .before .before .before .before .before .before .before .before .before .before .before .before .before .before .before .before .before .before .before .before .before .before .before .before .before .before .before .before .before .before .before .before .before .before .pre .wide .lowest)
+same-length-12 c =
+    let c16 = c .before .before .before .before .before .before .before .before .before .before .before .before .before .before .before .before in
+    let c33 = c16 .before .before .before .before .before .before .before .before .before .before .before .before .before .before .before .before .before in
+    let c43 = c33 .before .before .before .before .before .before .before .before .before .before in
+    c16 .next .kept .1 .1 .1 .1 .1 .0 ∙ c33 .loop .inv .wide .lowest ∙ sym (c43 .pre .wide .lowest)
 
 returns-2 : tie.Need-returns-2 Inv-loop μ-loop
-returns-2 c = let L = c .before .before .before .before .before .before .before .before .before .before .before .before .before .before .before .before .before .before .before .before .before .before .before .before .before .before .before .before .before .before .before .before .before .loop in let k = c .before .before .before .before .before .before .before .before .before .before .before .before .before .before .before .before .before .before .before .before .before .before .before .before .before .before .take .ensures .is (L .fb) (L .fc) in too-short _ (on (L .inv) _ k _ _ _ (c .before .before .before .before .before .before .before .before .before .before .before .before .before .before .before .before .before .before .before .before .before .before .before .before .t2 .given .1) (c .before .before .before .before .before .before .before .before .before .before .before .before .before .before .before .before .next .ensures)) (c .if1 .taken)
+returns-2 c =
+    let c16 = c .before .before .before .before .before .before .before .before .before .before .before .before .before .before .before .before in
+    let c24 = c16 .before .before .before .before .before .before .before .before in
+    let c26 = c24 .before .before in
+    let c33 = c26 .before .before .before .before .before .before .before in
+    let L = c33 .loop in
+    let k = c26 .take .ensures .is (L .fb) (L .fc) in
+    too-short _ (on (L .inv) _ k _ _ _ (c24 .t2 .given .1) (c16 .next .ensures)) (c .if1 .taken)
 
 add-at : tie.Need-add-at Inv-loop μ-loop
-add-at c = let g = c .before .before .before .before .before .before .before .before .before .before .before .before .before .before .before .before .before .before .before .before .before .before .before .before .before .before .before .before .before .before .before .before .before .before .before .before .before .before .before .before .before .before .before .good in let L = c .before .before .before .before .before .before .before .before .before .before .before .before .before .before .before .before .before .before .before .before .before .before .before .before .before .before .before .before .before .before .before .before .before .loop in let k = c .before .before .before .before .before .before .before .before .before .before .before .before .before .before .before .before .before .before .before .before .before .before .before .before .before .before .take .ensures .is (L .fb) (L .fc) in omega (arith, inside (L .inv) _ k _ _ (c .before .before .before .before .before .before .before .before .before .before .before .before .before .before .before .before .before .before .before .before .before .before .before .before .t2 .given .1))
+add-at c =
+    let c24 = c .before .before .before .before .before .before .before .before .before .before .before .before .before .before .before .before .before .before .before .before .before .before .before .before in
+    let c26 = c24 .before .before in
+    let c33 = c26 .before .before .before .before .before .before .before in
+    let c43 = c33 .before .before .before .before .before .before .before .before .before .before in
+    let g = c43 .good in
+    let L = c33 .loop in
+    let k = c26 .take .ensures .is (L .fb) (L .fc) in
+    omega (arith, inside (L .inv) _ k _ _ (c24 .t2 .given .1))
 
 loop-less : tie.Need-loop-less Inv-loop μ-loop
-loop-less c = let L = c .before .before .before .before .before .before .before .before .before .before .before .before .before .before .before .before .before .before .before .before .before .before .before .before .before .before .before .before .before .before .before .before .before .loop in let k = c .before .before .before .before .before .before .before .before .before .before .before .before .before .before .before .before .before .before .before .before .before .before .before .before .before .before .take .ensures .is (L .fb) (L .fc) in let m = more (L .inv) _ k _ _ (c .before .before .before .before .before .before .before .before .before .before .before .before .before .before .before .before .before .before .before .before .before .before .before .before .t2 .given .1) in let i = inside (L .inv) _ k _ _ (c .before .before .before .before .before .before .before .before .before .before .before .before .before .before .before .before .before .before .before .before .before .before .before .before .t2 .given .1) in omega arith
+loop-less c =
+    let c24 = c .before .before .before .before .before .before .before .before .before .before .before .before .before .before .before .before .before .before .before .before .before .before .before .before in
+    let c26 = c24 .before .before in
+    let c33 = c26 .before .before .before .before .before .before .before in
+    let L = c33 .loop in
+    let k = c26 .take .ensures .is (L .fb) (L .fc) in
+    let m = more (L .inv) _ k _ _ (c24 .t2 .given .1) in
+    let i = inside (L .inv) _ k _ _ (c24 .t2 .given .1) in
+    omega arith
 
 loop-again : tie.Need-loop-again Inv-loop μ-loop
-loop-again c = let L = c .before .before .before .before .before .before .before .before .before .before .before .before .before .before .before .before .before .before .before .before .before .before .before .before .before .before .before .before .before .before .before .before .before .loop in let k = c .before .before .before .before .before .before .before .before .before .before .before .before .before .before .before .before .before .before .before .before .before .before .before .before .before .before .take .ensures .is (L .fb) (L .fc) in let N = c .before .before .before .before .before .before .before .before .before .before .before .before .before .before .before .before .next .kept in record { held = on (L .inv) _ k _ _ _ (c .before .before .before .before .before .before .before .before .before .before .before .before .before .before .before .before .before .before .before .before .before .before .before .before .t2 .given .1) (c .before .before .before .before .before .before .before .before .before .before .before .before .before .before .before .before .next .ensures); wide = record { kinds = N .0 ∙ L .inv .wide .kinds; firsts = N .1 .0 ∙ L .inv .wide .firsts; seconds = N .1 .1 .0 ∙ L .inv .wide .seconds; thirds = N .1 .1 .1 .0 ∙ L .inv .wide .thirds; sorts = N .1 .1 .1 .1 .0 ∙ L .inv .wide .sorts; lowest = N .1 .1 .1 .1 .1 .0 ∙ L .inv .wide .lowest }; node = (let e = N .0 ∙ L .inv .wide .kinds in omega arith) }
+loop-again c =
+    let c16 = c .before .before .before .before .before .before .before .before .before .before .before .before .before .before .before .before in
+    let c24 = c16 .before .before .before .before .before .before .before .before in
+    let c26 = c24 .before .before in
+    let c33 = c26 .before .before .before .before .before .before .before in
+    let L = c33 .loop in
+    let k = c26 .take .ensures .is (L .fb) (L .fc) in
+    let N = c16 .next .kept in
+    record { held = on (L .inv) _ k _ _ _ (c24 .t2 .given .1) (c16 .next .ensures); wide = record { kinds = N .0 ∙ L .inv .wide .kinds; firsts = N .1 .0 ∙ L .inv .wide .firsts; seconds = N .1 .1 .0 ∙ L .inv .wide .seconds; thirds = N .1 .1 .1 .0 ∙ L .inv .wide .thirds; sorts = N .1 .1 .1 .1 .0 ∙ L .inv .wide .sorts; lowest = N .1 .1 .1 .1 .1 .0 ∙ L .inv .wide .lowest }; node = (let e = N .0 ∙ L .inv .wide .kinds in omega arith) }
 
 is-done-requires : tie.Need-is-done-requires Inv-loop μ-loop
 is-done-requires c κs = search needs

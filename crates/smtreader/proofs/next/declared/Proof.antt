@@ -17,13 +17,23 @@ pick-requires : tie.Need-pick-requires
 pick-requires c κs = search needs
 
 obliged-requires : tie.Need-obliged-requires
-obliged-requires c κs = let q = c .before .before .before .before .before .before .before .before .before .before .before .pre in (rw (c .before .before .before .before .format-of .ensures) (format-small (c .before .before .before .before .before .before .before .before .before .before .before .args .w)), λ z. q .reads (eqb-true _ _ z))
+obliged-requires c κs =
+    let c4 = c .before .before .before .before in
+    let c11 = c4 .before .before .before .before .before .before .before in
+    let q = c11 .pre in
+    (rw (c4 .format-of .ensures) (format-small (c11 .args .w)), λ z. q .reads (eqb-true _ _ z))
 
 entered-requires : tie.Need-entered-requires
-entered-requires c κs = let q = c .before .before .before .before .before .before .before .before .before .before .before .before .before .before .before .before .before .before .before .before .pre .row in record { room = record { kinds = q .room .kinds; firsts = q .room .firsts; seconds = q .room .seconds; thirds = q .room .thirds; sorts = search needs; lowest = q .room .lowest }; node = q .node; kind = q .kind; second = rw (c .before .before .before .before .before .before .before .before .before .before .before .pick .ensures) (cond-below (leb (c .before .before .before .before .before .before .before .before .before .before .before .before .before .before .before .before .before .before .before .before .args .l .kind) 3) 65536 (c .before .before .before .before .before .before .before .before .before .before .before .before .before .before .before .before .before .before .before .before .args .w) 0 (q .second) (omega arith)); third = omega arith; sort = q .sort }
+entered-requires c κs =
+    let c11 = c .before .before .before .before .before .before .before .before .before .before .before in
+    let c20 = c11 .before .before .before .before .before .before .before .before .before in
+    let q = c20 .pre .row in
+    record { room = record { kinds = q .room .kinds; firsts = q .room .firsts; seconds = q .room .seconds; thirds = q .room .thirds; sorts = search needs; lowest = q .room .lowest }; node = q .node; kind = q .kind; second = rw (c11 .pick .ensures) (cond-below (leb (c20 .args .l .kind) 3) 65536 (c20 .args .w) 0 (q .second) (omega arith)); third = omega arith; sort = q .sort }
 
 declared-place-requires : tie.Need-declared-place-requires
-declared-place-requires c κs = (c .before .before .before .before .before .before .before .before .before .before .before .before .before .before .before .before .before .before .before .before .before .before .before .before .before .before .before .before .before .before .before .before .before .pre .row .node, c .before .before .before .before .before .before .before .before .before .before .before .before .before .before .before .before .before .before .before .before .before .before .before .before .before .before .before .before .before .before .before .before .before .pre .count)
+declared-place-requires c κs =
+    let c33 = c .before .before .before .before .before .before .before .before .before .before .before .before .before .before .before .before .before .before .before .before .before .before .before .before .before .before .before .before .before .before .before .before .before in
+    (c33 .pre .row .node, c33 .pre .count)
 
 no-line-requires : tie.Need-no-line-requires
 no-line-requires c κs = search needs
@@ -48,7 +58,12 @@ same-length-6 c = search needs
 
 returns : tie.Need-returns
 unfolding declared
-returns c = join _ _ _ (c .before .before .before .before .before .before .before .before .before .before .before .before .before .before .entered .ensures ∙ declared-tables _ _ _ _ _ _ _ _ _ _ _ _ _ _ _ _ _ (c .before .before .before .before .before .before .before .before .before .before .before .before .before .before .before .before .before .before .before .before .before .before .before .obliged .ensures) (c .before .before .before .before .before .before .before .before .before .before .before .before .before .before .before .before .before .before .before .before .before .before .before .before .before .before .before .before .format-of .ensures) (c .before .before .before .before .before .before .before .before .before .before .before .before .before .before .before .before .before .before .before .before .before .before .before .before .before .before .pick .ensures)) (c .before .declared-place .ensures none 0) (c .no-line .ensures)
+returns c =
+    let c14 = c .before .before .before .before .before .before .before .before .before .before .before .before .before .before in
+    let c23 = c14 .before .before .before .before .before .before .before .before .before in
+    let c26 = c23 .before .before .before in
+    let c28 = c26 .before .before in
+    join _ _ _ (c14 .entered .ensures ∙ declared-tables _ _ _ _ _ _ _ _ _ _ _ _ _ _ _ _ _ (c23 .obliged .ensures) (c28 .format-of .ensures) (c26 .pick .ensures)) (c .before .declared-place .ensures none 0) (c .no-line .ensures)
 
 pub declared-spec : {M : Type 1} → statement M
 declared-spec =
