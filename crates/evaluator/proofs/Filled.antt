@@ -1,15 +1,17 @@
 -- A node's sort out of the table, one turn of the loop that fills it, and what the loop comes to.
+use mathlib.Core.Bool.{cond}
 use mathlib.Core.List.{List, _++_, append-assoc}
 use mathlib.Core.Path.{_≡_, refl, sym, ap, _∙_}
 use Prim.Native.Nat.{ℕ, suc, _+_, _*_, _/_, _≤_, _<_, min}
 use native.Mathlib.Numerals.{add-one}
 use native.Mathlib.Omega.{arith}
-use borrow.Author.Tests.{le-leb, lt-leb}
+use borrow.Author.Tests.{le-leb, lt-leb, ne-eqb}
+use lib.Dec.{eqb}
 use lib.ListN.{length, getD, take, drop, set, replicate, length-take, length-append, length-drop, length-replicate}
 use lib.Seq.{drop-cons, set-at, take-at}
 use Rattle.lists.specs.Rows.{roomOf}
 use Rattle.sorts.specs.Sorts.{sortRow}
-use Rattle.sorts.specs.Lists.{rowSort, sorts}
+use Rattle.sorts.specs.Lists.{field, rowSort, sorts}
 use Rattle.sorts.specs.Check.{checkOf}
 use Rattle.sorts.specs.Laws.{Passes, sorts-suc, length-sorts, fault-at, passed-room}
 use Rattle.sorts.specs.declared.Verdict.the-variants.{Passed, Fault, Room}
@@ -18,13 +20,30 @@ use Rattle.evaluator.specs.Inside.{ScanReady}
 use Rattle.evaluator.specs.Table.{Tables}
 use Rattle.evaluator.specs.Laws.{table-checked, table-sorted}
 
--- the sort of a node from the sorts looked up in a table whose first i entries are those of the earlier nodes
-pub row-from : (w t : List ℕ) (i r ra rb rc : ℕ) → take i t ≡ sorts w i
-    → ra ≡ getD (take i t) (getD w (4 * i + 1) 0) 0 → rb ≡ getD (take i t) (getD w (4 * i + 2) 0) 0 → rc ≡ getD (take i t) (getD w (4 * i + 3) 0) 0
-    → r ≡ sortRow (getD w (4 * i) 0) (getD w (4 * i + 1) 0) (getD w (4 * i + 2) 0) (getD w (4 * i + 3) 0) ra rb rc
-    → r ≡ rowSort w i (sorts w i)
-unfolding rowSort
-row-from w t i r ra rb rc e ea eb ec er = cc
+-- a row of the table that is another kind's
+pub skip : (k n s rest : ℕ) → (k ≡ n → ⊥) → 0 ≡ rest → 0 ≡ cond (eqb k n) s rest
+skip k n s rest h e = rw (ne-eqb k n h) e
+
+-- the sort of a node of kind n, in a table whose first i entries are the sorts of the earlier nodes: from the sorts of the operands, and from those alone where its kind looks at no other
+module _ (w t : List ℕ) (i n r : ℕ) (e : take i t ≡ sorts w i) (k : getD w (4 * i) 0 ≡ n) where
+  abbrev at : ℕ → ℕ
+  at p = getD (take i t) (field w i p) 0
+
+  abbrev row : ℕ → ℕ → ℕ → ℕ
+  row sa sb sc = sortRow n (field w i 1) (field w i 2) (field w i 3) sa sb sc
+
+  pub as-kind : r ≡ row (at 1) (at 2) (at 3) → r ≡ rowSort w i (sorts w i)
+  unfolding rowSort
+  as-kind q = rw (k, ← e) q
+
+  pub as-leaf : r ≡ row 0 0 0 → row 0 0 0 ≡ row (at 1) (at 2) (at 3) → r ≡ rowSort w i (sorts w i)
+  as-leaf q s = as-kind (q ∙ s)
+
+  pub as-one : r ≡ row (at 1) 0 0 → row (at 1) 0 0 ≡ row (at 1) (at 2) (at 3) → r ≡ rowSort w i (sorts w i)
+  as-one q s = as-kind (q ∙ s)
+
+  pub as-two : r ≡ row (at 1) (at 2) 0 → row (at 1) (at 2) 0 ≡ row (at 1) (at 2) (at 3) → r ≡ rowSort w i (sorts w i)
+  as-two q s = as-kind (q ∙ s)
 
 -- a table at whose front stand the sorts of i nodes: its front, its length, and one sort more
 module _ (w t₀ t : List ℕ) (i : ℕ) (e : t ≡ sorts w i ++ drop i t₀) where
@@ -61,6 +80,10 @@ module _ (w t₀ : List ℕ) (n : ℕ) where
 -- a table of 65,536 entries is long enough for any count
 pub enough : (n : ℕ) → min n 65535 ≤ length (replicate {A = ℕ} 65536 0)
 enough n = omega (arith, length-replicate {A = ℕ} 65536 0)
+
+-- and one of 1,024 for few
+pub enough-few : (n : ℕ) → n ≤ 1024 → min n 65535 ≤ length (replicate {A = ℕ} 1024 0)
+enough-few n h = omega (arith, length-replicate {A = ℕ} 1024 0)
 
 -- the table of a list that passes is ready for the scan
 pub scanned : (w g t₀ t : List ℕ) (n : ℕ) (v : Verdict) → min n 65535 ≤ length t₀ → Tables w n v t₀ t → v ≡ Passed → n ≤ length g / 2 → ScanReady w g t n

@@ -29,7 +29,7 @@ width-float : (f : ℕ) → isFloat f ≡ true → widthOf f ≡ patternWidth f
 width-float f e = rw e
 
 -- f is one of the three
-float-case : (P : ℕ → Type 0) (f : ℕ) → isFloat f ≡ true → P 2072 → P 2869 → P 3904 → P f
+pub float-case : (P : ℕ → Type 0) (f : ℕ) → isFloat f ≡ true → P 2072 → P 2869 → P 3904 → P f
 float-case P f e x y z =
     or-case (eqb f 2072 || eqb f 2869) (eqb f 3904) e
     (λ i. or-case (eqb f 2072) (eqb f 2869) i (λ j. subst P (sym (eqb-true f 2072 j)) x) (λ j. subst P (sym (eqb-true f 2869 j)) y))

@@ -1,15 +1,12 @@
 -- Masks, extract and concat.
-use mathlib.Core.Path.{_≡_, refl, sym, subst}
-use mathlib.Core.Bool.{Bool, true, false, _&&_}
-use Prim.Native.Nat.{ℕ, _+_, _-_, _*_, _/_, _%_, _^_, _≤_, _<_}
-use native.Mathlib.Nat.{mul-assoc, mod-eq-of-lt, mod-lt, one-mul, mul-add-mod-self-right, mul-mod-left, lt-of-lt-of-le, div-eq-of-lt, le-div-iff-mul-le}
+use mathlib.Core.Path.{_≡_, sym, subst}
+use Prim.Native.Nat.{ℕ, _+_, _-_, _*_, _%_, _^_, _≤_, _<_}
+use native.Mathlib.Nat.{mul-assoc, mod-eq-of-lt, mod-lt, one-mul, mul-add-mod-self-right, mul-mod-left, lt-of-lt-of-le}
 use native.Mathlib.Decide.{decLt}
 use native.Mathlib.Omega.{arith}
 use lib.Bits.{bitOr, or-shifted, or-zero-l}
-use lib.Dec.{eqb, ltb}
 use lib.Pow as Pow
 use lib.Pow.{pow-pos, pow-add, pow-lt, pow-mono, high, mod-pow-add}
-use borrow.Author.Tests.{eqb-true, lt-ltb, le-ltb}
 use Rattle.words.specs.Wide.{concatOf}
 use Rattle.words.proofs.Shifts.{shl-word, mod-digits}
 
@@ -55,25 +52,3 @@ joined k x y hy = by (decLt k 128)
         let m : x * 2 ^ k ≡ x * 2 ^ (k - 128) * 2 ^ 128 = subst (λ (n : ℕ). x * 2 ^ n ≡ x * 2 ^ (k - 128) * 2 ^ 128) e (rw (pow-add 2 (k - 128) 128, ← mul-assoc)) in
         rw (mod-eq-of-lt (whole {x = y} k hy (omega arith)), m, mul-mod-left, or-zero-l y, mul-add-mod-self-right (x * 2 ^ (k - 128)) (2 ^ 128) y)
         (sym (mod-eq-of-lt hy))
-
-both-false : (a b : Bool) → (a ≡ true → b ≡ true → ⊥) → a && b ≡ false
-both-false true true f = absurd (f refl refl)
-both-false true false f = refl
-both-false false b f = refl
-
--- a number fits k bits if nothing is left of it above them
-module _ (lo hi v p : ℕ) (hp : 0 < p) (e : hi * 2 ^ 64 + lo ≡ v / p) where
-  fits-by : Dec (v < p) → eqb lo 0 && eqb hi 0 ≡ ltb v p
-  fits-by (yes h) =
-      let z : v / p ≡ 0 = div-eq-of-lt h in
-      let l0 : lo ≡ 0 = omega arith in
-      let h0 : hi ≡ 0 = omega arith in
-      simp (l0, h0, lt-ltb v p h)
-  fits-by (no h) =
-      let q : p ≤ v = omega arith in
-      let z : 1 ≤ v / p = le-div-iff-mul-le hp .1 (omega arith) in
-      rw (le-ltb v p q)
-      (both-false (eqb lo 0) (eqb hi 0) (λ x y. let l0 = eqb-true lo 0 x in let h0 = eqb-true hi 0 y in omega arith))
-
-  pub fits-law : eqb lo 0 && eqb hi 0 ≡ ltb v p
-  fits-law = fits-by (decLt v p)

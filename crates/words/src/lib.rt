@@ -147,6 +147,11 @@ pub fn eq(x: Wide, y: Wide) -> bool
 pub fn fits(x: Wide, k: u64) -> bool
     ensures { λ r. ⌜ r ≡ ltb (val x) (2 ^ k) ⌝ }
 {
-    let rest = shr(x, k);
-    (rest.lo == 0) & (rest.hi == 0)
+    if k < 64 {
+        return (x.hi == 0) & (x.lo >> k == 0);
+    }
+    if k < 128 {
+        return x.hi >> (k - 64) == 0;
+    }
+    true
 }

@@ -1,11 +1,27 @@
+use mathlib.Core.Logic.{inl, inr}
 use mathlib.Core.Path.{_∙_}
 use native.Mathlib.Nat.{mod-eq-of-lt}
 use borrow.Author.Tests.{ne-eqb}
 use Rattle.words.specs.Wide.{val-of}
 use Rattle.evaluator.specs.Value.{computed}
+use Rattle.evaluator.proofs.Flags.{low-is, both, either, other}
 use borrow.Author.Needs.{needs}
 use Rattle.evaluator.proofs.compute.Statement.{statement}
 use Rattle.evaluator.proofs.compute.Tie as tie
+use Rattle.evaluator.proofs.compute.Reads as reads
+use Rattle.evaluator.proofs.compute.Lts as lts
+use Rattle.evaluator.proofs.canonical.Reads as canonical-reads
+use Rattle.evaluator.proofs.choose.Reads as choose-reads
+use Rattle.evaluator.proofs.equal.Reads as equal-reads
+use Rattle.evaluator.proofs.flag.Reads as flag-reads
+use Rattle.evaluator.proofs.is_nan.Reads as is-nan-reads
+use Rattle.evaluator.proofs.less.Reads as less-reads
+use Rattle.evaluator.proofs.word.Reads as word-reads
+use Rattle.words.proofs.and.Reads as and-reads
+use Rattle.words.proofs.concat.Reads as concat-reads
+use Rattle.words.proofs.eq.Reads as eq-reads
+use Rattle.words.proofs.extract.Reads as extract-reads
+use Rattle.words.proofs.xor.Reads as xor-reads
 
 and-requires : tie.Need-and-requires
 and-requires c κs = search needs
@@ -19,32 +35,14 @@ eq-requires c κs = search needs
 flag-requires : tie.Need-flag-requires
 flag-requires c κs = search needs
 
-is-one-requires : tie.Need-is-one-requires
-is-one-requires c κs = search needs
+word-requires : tie.Need-word-requires
+word-requires c κs = search needs
 
-is-one-requires-2 : tie.Need-is-one-requires-2
-is-one-requires-2 c κs = search needs
+word-requires-2 : tie.Need-word-requires-2
+word-requires-2 c κs = search needs
 
-flag-requires-2 : tie.Need-flag-requires-2
-flag-requires-2 c κs = search needs
-
-is-one-requires-3 : tie.Need-is-one-requires-3
-is-one-requires-3 c κs = search needs
-
-is-one-requires-4 : tie.Need-is-one-requires-4
-is-one-requires-4 c κs = search needs
-
-flag-requires-3 : tie.Need-flag-requires-3
-flag-requires-3 c κs = search needs
-
-is-one-requires-5 : tie.Need-is-one-requires-5
-is-one-requires-5 c κs = search needs
-
-flag-requires-4 : tie.Need-flag-requires-4
-flag-requires-4 c κs = search needs
-
-is-one-requires-6 : tie.Need-is-one-requires-6
-is-one-requires-6 c κs = search needs
+word-requires-3 : tie.Need-word-requires-3
+word-requires-3 c κs = search needs
 
 choose-requires : tie.Need-choose-requires
 choose-requires c κs = search needs
@@ -56,22 +54,22 @@ concat-requires : tie.Need-concat-requires
 concat-requires c κs = search needs
 
 equal-requires : tie.Need-equal-requires
-equal-requires c κs = search needs
+equal-requires c κs = c .before .pre .equal (c .match .keys11)
 
-flag-requires-5 : tie.Need-flag-requires-5
-flag-requires-5 c κs = search needs
+flag-requires-2 : tie.Need-flag-requires-2
+flag-requires-2 c κs = search needs
 
 less-requires : tie.Need-less-requires
-less-requires c κs = search needs
+less-requires c κs = c .before .pre .less (c .match .keys12)
 
-flag-requires-6 : tie.Need-flag-requires-6
-flag-requires-6 c κs = search needs
+flag-requires-3 : tie.Need-flag-requires-3
+flag-requires-3 c κs = search needs
 
 is-nan-requires : tie.Need-is-nan-requires
 is-nan-requires c κs = search needs
 
-flag-requires-7 : tie.Need-flag-requires-7
-flag-requires-7 c κs = search needs
+flag-requires-4 : tie.Need-flag-requires-4
+flag-requires-4 c κs = search needs
 
 canonical-requires : tie.Need-canonical-requires
 canonical-requires c κs = search needs
@@ -94,19 +92,33 @@ returns-4 c = rw (c .before .before .match .keys4, c .flag .ensures, c .before .
 
 returns-5 : tie.Need-returns-5
 unfolding computed
-returns-5 c = rw (c .before .before .before .match .keys5, c .flag2 .ensures, c .before .is-one2 .ensures, c .before .before .is-one .ensures)
+returns-5 c =
+    let s = c .before .before .before .before in
+    let k = c .before .before .before .match .keys5 in
+    let f = s .pre .flags (inl k) in
+    rw (k, c .word .ensures) (both (s .args .va .hi) (s .args .va .lo) (f .0) (s .args .vb .hi) (s .args .vb .lo) (f .1))
 
 returns-6 : tie.Need-returns-6
 unfolding computed
-returns-6 c = rw (c .before .before .before .match .keys6, c .flag3 .ensures, c .before .is-one4 .ensures, c .before .before .is-one3 .ensures)
+returns-6 c =
+    let s = c .before .before .before .before in
+    let k = c .before .before .before .match .keys6 in
+    let f = s .pre .flags (inr k) in
+    rw (k, c .word2 .ensures) (either (s .args .va .hi) (s .args .va .lo) (f .0) (s .args .vb .hi) (s .args .vb .lo) (f .1))
 
 returns-7 : tie.Need-returns-7
 unfolding computed
-returns-7 c = rw (c .before .before .match .keys7, c .flag4 .ensures, c .before .is-one5 .ensures)
+returns-7 c =
+    let s = c .before .before .before in
+    let k = c .before .before .match .keys7 in
+    rw (k, c .word3 .ensures) (other (s .args .va .hi) (s .args .va .lo) (s .pre .flag (inl k)))
 
 returns-8 : tie.Need-returns-8
 unfolding computed
-returns-8 c = rw (c .before .before .match .keys8, c .choose .ensures, c .before .is-one6 .ensures)
+returns-8 c =
+    let s = c .before .before .before in
+    let k = c .before .before .match .keys8 in
+    rw (k, c .choose .ensures, ← low-is (s .args .va .hi) (s .args .va .lo) (s .pre .flag (inr k)))
 
 returns-9 : tie.Need-returns-9
 unfolding computed
@@ -114,19 +126,19 @@ returns-9 c = rw (c .before .match .keys9, val-of _ _ (c .extract .ensures))
 
 returns-10 : tie.Need-returns-10
 unfolding computed
-returns-10 c = rw (c .before .match .keys10) (val-of _ _ (c .concat .ensures) ∙ mod-eq-of-lt (c .before .before .pre (c .before .match .keys10)))
+returns-10 c = rw (c .before .match .keys10) (val-of _ _ (c .concat .ensures) ∙ mod-eq-of-lt (c .before .before .pre .joined (c .before .match .keys10)))
 
 returns-11 : tie.Need-returns-11
 unfolding computed
-returns-11 c = rw (c .before .before .match .keys11, c .flag5 .ensures, c .before .equal .ensures)
+returns-11 c = rw (c .before .before .match .keys11, c .flag2 .ensures, c .before .equal .ensures)
 
 returns-12 : tie.Need-returns-12
 unfolding computed
-returns-12 c = rw (c .before .before .match .keys12, c .flag6 .ensures, c .before .less .ensures)
+returns-12 c = rw (c .before .before .match .keys12, c .flag3 .ensures, c .before .less .ensures)
 
 returns-13 : tie.Need-returns-13
 unfolding computed
-returns-13 c = rw (c .before .before .match .keys13, c .flag7 .ensures, c .before .is-nan .ensures)
+returns-13 c = rw (c .before .before .match .keys13, c .flag4 .ensures, c .before .is-nan .ensures)
 
 returns-14 : tie.Need-returns-14
 unfolding computed
@@ -148,24 +160,18 @@ compute-spec =
     xor-requires
     eq-requires
     flag-requires
-    is-one-requires
-    is-one-requires-2
-    flag-requires-2
-    is-one-requires-3
-    is-one-requires-4
-    flag-requires-3
-    is-one-requires-5
-    flag-requires-4
-    is-one-requires-6
+    word-requires
+    word-requires-2
+    word-requires-3
     choose-requires
     extract-requires
     concat-requires
     equal-requires
-    flag-requires-5
+    flag-requires-2
     less-requires
-    flag-requires-6
+    flag-requires-3
     is-nan-requires
-    flag-requires-7
+    flag-requires-4
     canonical-requires
     returns
     returns-2

@@ -1,8 +1,17 @@
 use mathlib.Core.Path.{sym, _∙_}
 use Rattle.evaluator.specs.Value.{held}
+use Rattle.evaluator.proofs.Node.{not-float}
 use borrow.Author.Needs.{needs}
 use Rattle.evaluator.proofs.hold.Statement.{statement}
 use Rattle.evaluator.proofs.hold.Tie as tie
+use Rattle.evaluator.proofs.hold.Reads as reads
+use Rattle.evaluator.proofs.hold.Lts as lts
+use Rattle.evaluator.proofs.canonical.Reads as canonical-reads
+use Rattle.sorts.proofs.is_float.Reads as is-float-reads
+
+returns : tie.Need-returns
+unfolding held
+returns c = rw (not-float (c .before .args .s) (c .if1 .taken))
 
 is-float-requires : tie.Need-is-float-requires
 is-float-requires c κs = search needs
@@ -10,13 +19,13 @@ is-float-requires c κs = search needs
 canonical-requires : tie.Need-canonical-requires
 canonical-requires c κs = search needs
 
-returns : tie.Need-returns
-unfolding held
-returns c = rw (sym (c .before .before .is-float .ensures) ∙ c .before .if1 .taken) (c .canonical .ensures)
-
 returns-2 : tie.Need-returns-2
 unfolding held
-returns-2 c = rw (sym (c .before .is-float .ensures) ∙ c .if1 .left)
+returns-2 c = rw (sym (c .before .before .is-float .ensures) ∙ c .before .if2 .taken) (c .canonical .ensures)
+
+returns-3 : tie.Need-returns-3
+unfolding held
+returns-3 c = rw (sym (c .before .is-float .ensures) ∙ c .if2 .left)
 
 pub hold-spec : {M : Type 1} → statement M
-hold-spec = tie.close (tie.spec is-float-requires canonical-requires returns returns-2)
+hold-spec = tie.close (tie.spec returns is-float-requires canonical-requires returns-2 returns-3)

@@ -1,7 +1,11 @@
-use mathlib.Core.Path.{sym, _∙_}
+use mathlib.Core.Path.{refl, _∙_}
+use native.Mathlib.Omega.{arith}
 use Rattle.words.specs.Wide.{val}
+use Rattle.sorts.specs.Lists.{field, rowSort}
+use Rattle.needs.specs.Needed.{arity}
+use Rattle.evaluator.specs.Value.{computed}
 use Rattle.evaluator.specs.Lists.{rowValue}
-use Rattle.evaluator.proofs.Node.{inside, value-from}
+use Rattle.evaluator.proofs.Node.{plain, given-else, first, second, third, value-of, sort-of, and-ready, or-ready, not-ready, ite-ready, concat-ready, equal-ready, less-ready, one-ready, two-ready, as-value, value-one, value-two}
 use borrow.Author.Needs.{needs}
 use Rattle.evaluator.proofs.node_value.Statement.{statement}
 use Rattle.evaluator.proofs.node_value.Tie as tie
@@ -15,8 +19,73 @@ mul-k c = search needs
 shared-slice-read-k : tie.Need-shared-slice-read-k
 shared-slice-read-k c = search needs
 
-is-given-requires : tie.Need-is-given-requires
-is-given-requires c κs = search needs
+from-none-requires : tie.Need-from-none-requires
+from-none-requires c κs = search needs
+
+from-two-requires : tie.Need-from-two-requires
+unfolding arity
+from-two-requires c κs =
+    let s = c .before .before .before .before .before .before in
+    let a = s .args in
+    let k = c .match .keys2 in
+    two-ready (a .nodes .now) (a .given .now) (a .t .now) (a .column .now) (a .i) (s .pre) 7 k 0 0 refl refl (plain 7 0 0 _ _ refl)
+
+from-two-requires-2 : tie.Need-from-two-requires-2
+unfolding arity
+from-two-requires-2 c κs =
+    let s = c .before .before .before .before .before .before in
+    let a = s .args in
+    let k = c .match .keys3 in
+    two-ready (a .nodes .now) (a .given .now) (a .t .now) (a .column .now) (a .i) (s .pre) 8 k 0 0 refl refl (plain 8 0 0 _ _ refl)
+
+from-two-requires-3 : tie.Need-from-two-requires-3
+unfolding arity
+from-two-requires-3 c κs =
+    let s = c .before .before .before .before .before .before in
+    let a = s .args in
+    let k = c .match .keys4 in
+    two-ready (a .nodes .now) (a .given .now) (a .t .now) (a .column .now) (a .i) (s .pre) 9 k 0 0 refl refl (plain 9 0 0 _ _ refl)
+
+from-two-requires-4 : tie.Need-from-two-requires-4
+unfolding arity
+from-two-requires-4 c κs =
+    let s = c .before .before .before .before .before .before in
+    let a = s .args in
+    let k = c .match .keys5 in
+    two-ready (a .nodes .now) (a .given .now) (a .t .now) (a .column .now) (a .i) (s .pre) 10 k 0 0 refl refl (and-ready (a .nodes .now) (a .given .now) (a .t .now) (a .column .now) (a .i) (s .pre) k)
+
+from-two-requires-5 : tie.Need-from-two-requires-5
+unfolding arity
+from-two-requires-5 c κs =
+    let s = c .before .before .before .before .before .before in
+    let a = s .args in
+    let k = c .match .keys6 in
+    two-ready (a .nodes .now) (a .given .now) (a .t .now) (a .column .now) (a .i) (s .pre) 11 k 0 0 refl refl (or-ready (a .nodes .now) (a .given .now) (a .t .now) (a .column .now) (a .i) (s .pre) k)
+
+from-one-requires : tie.Need-from-one-requires
+unfolding arity
+from-one-requires c κs =
+    let s = c .before .before .before .before .before .before in
+    let a = s .args in
+    let k = c .match .keys7 in
+    one-ready (a .nodes .now) (a .given .now) (a .t .now) (a .column .now) (a .i) (s .pre) 12 k 0 refl (not-ready (a .nodes .now) (a .given .now) (a .t .now) (a .column .now) (a .i) (s .pre) k)
+
+from-three-requires : tie.Need-from-three-requires
+from-three-requires c κs =
+    let s = c .before .before .before .before .before .before in
+    let a = s .args in
+    ite-ready (a .nodes .now) (a .given .now) (a .t .now) (a .column .now) (a .i) (s .pre) (c .match .keys8)
+
+from-one-requires-2 : tie.Need-from-one-requires-2
+unfolding arity
+from-one-requires-2 c κs =
+    let s = c .before .before .before .before .before .before in
+    let a = s .args in
+    let k = c .match .keys9 in
+    one-ready (a .nodes .now) (a .given .now) (a .t .now) (a .column .now) (a .i) (s .pre) 14 k 0 refl (plain 14 0 0 _ _ refl)
+
+add-wide : tie.Need-add-wide
+add-wide c = search needs
 
 mul-wide : tie.Need-mul-wide
 mul-wide c = search needs
@@ -24,8 +93,173 @@ mul-wide c = search needs
 shared-slice-read-wide : tie.Need-shared-slice-read-wide
 shared-slice-read-wide c = search needs
 
+mul-wide-2 : tie.Need-mul-wide-2
+unfolding arity
+mul-wide-2 c =
+    let s = c .before .before .before .before .before .before .before in
+    let a = s .args in
+    let h = second (a .nodes .now) (a .given .now) (a .t .now) (a .column .now) (a .i) (s .pre) 15 (c .before .match .keys10) refl in
+    let f = s .pre .few in
+    omega arith
+
+shared-slice-read-wide-2 : tie.Need-shared-slice-read-wide-2
+unfolding arity
+shared-slice-read-wide-2 c =
+    let s = c .before .before .before .before .before .before .before .before in
+    let a = s .args in
+    let h = second (a .nodes .now) (a .given .now) (a .t .now) (a .column .now) (a .i) (s .pre) 15 (c .before .before .match .keys10) refl in
+    let l = s .pre .long in
+    omega arith
+
 wide-requires : tie.Need-wide-requires
 wide-requires c κs = search needs
+
+from-two-requires-6 : tie.Need-from-two-requires-6
+unfolding arity
+from-two-requires-6 c κs =
+    let s = c .before .before .before .before .before .before .before .before .before in
+    let a = s .args in
+    let k = c .before .before .before .match .keys10 in
+    two-ready (a .nodes .now) (a .given .now) (a .t .now) (a .column .now) (a .i) (s .pre) 15 k 0 (c .wide .result) refl refl (concat-ready (a .nodes .now) (a .given .now) (a .t .now) (a .column .now) (a .i) (s .pre) (c .wide .result) k (c .wide .ensures ∙ sort-of (a .nodes .now) (a .given .now) (a .t .now) (a .column .now) (a .i) (s .pre) (field (a .nodes .now) (a .i) 2) (second (a .nodes .now) (a .given .now) (a .t .now) (a .column .now) (a .i) (s .pre) 15 k refl)))
+
+add-wide-2 : tie.Need-add-wide-2
+add-wide-2 c = search needs
+
+mul-wide-3 : tie.Need-mul-wide-3
+mul-wide-3 c = search needs
+
+shared-slice-read-wide-3 : tie.Need-shared-slice-read-wide-3
+shared-slice-read-wide-3 c = search needs
+
+mul-wide-4 : tie.Need-mul-wide-4
+unfolding arity
+mul-wide-4 c =
+    let s = c .before .before .before .before .before .before .before in
+    let a = s .args in
+    let h = first (a .nodes .now) (a .given .now) (a .t .now) (a .column .now) (a .i) (s .pre) 20 (c .before .match .keys11) refl in
+    let f = s .pre .few in
+    omega arith
+
+shared-slice-read-wide-4 : tie.Need-shared-slice-read-wide-4
+unfolding arity
+shared-slice-read-wide-4 c =
+    let s = c .before .before .before .before .before .before .before .before in
+    let a = s .args in
+    let h = first (a .nodes .now) (a .given .now) (a .t .now) (a .column .now) (a .i) (s .pre) 20 (c .before .before .match .keys11) refl in
+    let l = s .pre .long in
+    omega arith
+
+wide-requires-2 : tie.Need-wide-requires-2
+wide-requires-2 c κs = search needs
+
+from-two-requires-7 : tie.Need-from-two-requires-7
+unfolding arity
+from-two-requires-7 c κs =
+    let s = c .before .before .before .before .before .before .before .before .before in
+    let a = s .args in
+    let k = c .before .before .before .match .keys11 in
+    two-ready (a .nodes .now) (a .given .now) (a .t .now) (a .column .now) (a .i) (s .pre) 20 k (c .wide2 .result) 0 refl refl (equal-ready (a .nodes .now) (a .given .now) (a .t .now) (a .column .now) (a .i) (s .pre) (c .wide2 .result) k (c .wide2 .ensures ∙ sort-of (a .nodes .now) (a .given .now) (a .t .now) (a .column .now) (a .i) (s .pre) (field (a .nodes .now) (a .i) 1) (first (a .nodes .now) (a .given .now) (a .t .now) (a .column .now) (a .i) (s .pre) 20 k refl)))
+
+add-wide-3 : tie.Need-add-wide-3
+add-wide-3 c = search needs
+
+mul-wide-5 : tie.Need-mul-wide-5
+mul-wide-5 c = search needs
+
+shared-slice-read-wide-5 : tie.Need-shared-slice-read-wide-5
+shared-slice-read-wide-5 c = search needs
+
+mul-wide-6 : tie.Need-mul-wide-6
+unfolding arity
+mul-wide-6 c =
+    let s = c .before .before .before .before .before .before .before in
+    let a = s .args in
+    let h = first (a .nodes .now) (a .given .now) (a .t .now) (a .column .now) (a .i) (s .pre) 21 (c .before .match .keys12) refl in
+    let f = s .pre .few in
+    omega arith
+
+shared-slice-read-wide-6 : tie.Need-shared-slice-read-wide-6
+unfolding arity
+shared-slice-read-wide-6 c =
+    let s = c .before .before .before .before .before .before .before .before in
+    let a = s .args in
+    let h = first (a .nodes .now) (a .given .now) (a .t .now) (a .column .now) (a .i) (s .pre) 21 (c .before .before .match .keys12) refl in
+    let l = s .pre .long in
+    omega arith
+
+wide-requires-3 : tie.Need-wide-requires-3
+wide-requires-3 c κs = search needs
+
+from-two-requires-8 : tie.Need-from-two-requires-8
+unfolding arity
+from-two-requires-8 c κs =
+    let s = c .before .before .before .before .before .before .before .before .before in
+    let a = s .args in
+    let k = c .before .before .before .match .keys12 in
+    two-ready (a .nodes .now) (a .given .now) (a .t .now) (a .column .now) (a .i) (s .pre) 21 k (c .wide3 .result) 0 refl refl (less-ready (a .nodes .now) (a .given .now) (a .t .now) (a .column .now) (a .i) (s .pre) (c .wide3 .result) k (c .wide3 .ensures ∙ sort-of (a .nodes .now) (a .given .now) (a .t .now) (a .column .now) (a .i) (s .pre) (field (a .nodes .now) (a .i) 1) (first (a .nodes .now) (a .given .now) (a .t .now) (a .column .now) (a .i) (s .pre) 21 k refl)))
+
+add-wide-4 : tie.Need-add-wide-4
+add-wide-4 c = search needs
+
+mul-wide-7 : tie.Need-mul-wide-7
+mul-wide-7 c = search needs
+
+shared-slice-read-wide-7 : tie.Need-shared-slice-read-wide-7
+shared-slice-read-wide-7 c = search needs
+
+mul-wide-8 : tie.Need-mul-wide-8
+unfolding arity
+mul-wide-8 c =
+    let s = c .before .before .before .before .before .before .before in
+    let a = s .args in
+    let h = first (a .nodes .now) (a .given .now) (a .t .now) (a .column .now) (a .i) (s .pre) 22 (c .before .match .keys13) refl in
+    let f = s .pre .few in
+    omega arith
+
+shared-slice-read-wide-8 : tie.Need-shared-slice-read-wide-8
+unfolding arity
+shared-slice-read-wide-8 c =
+    let s = c .before .before .before .before .before .before .before .before in
+    let a = s .args in
+    let h = first (a .nodes .now) (a .given .now) (a .t .now) (a .column .now) (a .i) (s .pre) 22 (c .before .before .match .keys13) refl in
+    let l = s .pre .long in
+    omega arith
+
+wide-requires-4 : tie.Need-wide-requires-4
+wide-requires-4 c κs = search needs
+
+from-one-requires-3 : tie.Need-from-one-requires-3
+unfolding arity
+from-one-requires-3 c κs =
+    let s = c .before .before .before .before .before .before .before .before .before in
+    let a = s .args in
+    let k = c .before .before .before .match .keys13 in
+    one-ready (a .nodes .now) (a .given .now) (a .t .now) (a .column .now) (a .i) (s .pre) 22 k (c .wide4 .result) refl (plain 22 (c .wide4 .result) 0 _ _ refl)
+
+from-one-requires-4 : tie.Need-from-one-requires-4
+unfolding arity
+from-one-requires-4 c κs =
+    let s = c .before .before .before .before .before .before in
+    let a = s .args in
+    let k = c .match .keys14 in
+    one-ready (a .nodes .now) (a .given .now) (a .t .now) (a .column .now) (a .i) (s .pre) 25 k 0 refl (plain 25 0 0 _ _ refl)
+
+from-one-requires-5 : tie.Need-from-one-requires-5
+unfolding arity
+from-one-requires-5 c κs =
+    let s = c .before .before .before .before .before .before in
+    let a = s .args in
+    let k = c .match .keys15 in
+    one-ready (a .nodes .now) (a .given .now) (a .t .now) (a .column .now) (a .i) (s .pre) 26 k 0 refl (plain 26 0 0 _ _ refl)
+
+mul-wide-9 : tie.Need-mul-wide-9
+mul-wide-9 c = search needs
+
+shared-slice-read-wide-9 : tie.Need-shared-slice-read-wide-9
+shared-slice-read-wide-9 c = search needs
+
+wide-requires-5 : tie.Need-wide-requires-5
+wide-requires-5 c κs = search needs
 
 pair-at-requires : tie.Need-pair-at-requires
 pair-at-requires c κs = search needs
@@ -34,77 +268,125 @@ hold-requires : tie.Need-hold-requires
 hold-requires c κs = search needs
 
 returns : tie.Need-returns
-unfolding rowValue
+unfolding computed arity
 returns c =
-    let r = c .before .before .before .before .before .before .before .before .before .before .before .pre in
-    rw (sym (c .before .before .before .before .before .is-given .ensures) ∙ c .before .before .before .before .if1 .taken, c .hold .ensures, c .before .before .wide .ensures ∙ r .own, c .before .pair-at .ensures)
-
-add-a : tie.Need-add-a
-add-a c = search needs
-
-mul-a : tie.Need-mul-a
-mul-a c = search needs
-
-shared-slice-read-a : tie.Need-shared-slice-read-a
-shared-slice-read-a c = search needs
-
-add-b : tie.Need-add-b
-add-b c = search needs
-
-mul-b : tie.Need-mul-b
-mul-b c = search needs
-
-shared-slice-read-b : tie.Need-shared-slice-read-b
-shared-slice-read-b c = search needs
-
-add-c : tie.Need-add-c
-add-c c = search needs
-
-mul-c : tie.Need-mul-c
-mul-c c = search needs
-
-shared-slice-read-c : tie.Need-shared-slice-read-c
-shared-slice-read-c c = search needs
-
-sort-at-requires : tie.Need-sort-at-requires
-sort-at-requires c κs = search needs
-
-sort-at-requires-2 : tie.Need-sort-at-requires-2
-sort-at-requires-2 c κs = search needs
-
-value-at-requires : tie.Need-value-at-requires
-value-at-requires c κs = search needs
-
-value-at-requires-2 : tie.Need-value-at-requires-2
-value-at-requires-2 c κs = search needs
-
-value-at-requires-3 : tie.Need-value-at-requires-3
-value-at-requires-3 c κs = search needs
-
-compute-requires : tie.Need-compute-requires
-compute-requires c κs =
-    let s = c .before .before .before .before .before .before .before .before .before .before .before .before .before .before .before in
+    let s = c .before .before .before .before .before .before .before in
     let a = s .args in
-    let sa = c .before .before .before .before .sort-at in
-    let sb = c .before .before .before .sort-at2 in
-    let va = c .before .before .value-at in
-    let vb = c .before .value-at2 in
-    let vc = c .value-at3 in
-    inside (a .nodes .now) (a .given .now) (a .t .now) (a .column .now) (a .i) (s .pre) (sa .result) (sb .result) (val (va .result)) (val (vb .result)) (val (vc .result))
-    (sa .ensures) (sb .ensures) (va .ensures) (vb .ensures) (vc .ensures)
+    as-value (a .nodes .now) (a .given .now) (a .t .now) (a .column .now) (a .i) (s .pre) 6 (c .before .match .keys1) (val (c .from-none .result)) refl (c .from-none .ensures)
 
 returns-2 : tie.Need-returns-2
+unfolding computed arity
 returns-2 c =
-    let s = c .before .before .before .before .before .before .before .before .before .before .before .before .before .before .before .before in
+    let s = c .before .before .before .before .before .before .before in
     let a = s .args in
-    let sa = c .before .before .before .before .before .sort-at in
-    let sb = c .before .before .before .before .sort-at2 in
-    let va = c .before .before .before .value-at in
-    let vb = c .before .before .value-at2 in
-    let vc = c .before .value-at3 in
-    value-from (a .nodes .now) (a .given .now) (a .t .now) (a .column .now) (a .i) (s .pre) (sa .result) (sb .result) (val (va .result)) (val (vb .result)) (val (vc .result))
-    (sa .ensures) (sb .ensures) (va .ensures) (vb .ensures) (vc .ensures)
-    (val (c .compute .result)) (sym (c .before .before .before .before .before .before .before .before .before .before .is-given .ensures) ∙ c .before .before .before .before .before .before .before .before .before .if1 .left) (c .compute .ensures)
+    value-two (a .nodes .now) (a .given .now) (a .t .now) (a .column .now) (a .i) (s .pre) 7 (c .before .match .keys2) (val (c .from-two .result)) refl 0 0 refl refl (c .from-two .ensures) refl
+
+returns-3 : tie.Need-returns-3
+unfolding computed arity
+returns-3 c =
+    let s = c .before .before .before .before .before .before .before in
+    let a = s .args in
+    value-two (a .nodes .now) (a .given .now) (a .t .now) (a .column .now) (a .i) (s .pre) 8 (c .before .match .keys3) (val (c .from-two2 .result)) refl 0 0 refl refl (c .from-two2 .ensures) refl
+
+returns-4 : tie.Need-returns-4
+unfolding computed arity
+returns-4 c =
+    let s = c .before .before .before .before .before .before .before in
+    let a = s .args in
+    value-two (a .nodes .now) (a .given .now) (a .t .now) (a .column .now) (a .i) (s .pre) 9 (c .before .match .keys4) (val (c .from-two3 .result)) refl 0 0 refl refl (c .from-two3 .ensures) refl
+
+returns-5 : tie.Need-returns-5
+unfolding computed arity
+returns-5 c =
+    let s = c .before .before .before .before .before .before .before in
+    let a = s .args in
+    value-two (a .nodes .now) (a .given .now) (a .t .now) (a .column .now) (a .i) (s .pre) 10 (c .before .match .keys5) (val (c .from-two4 .result)) refl 0 0 refl refl (c .from-two4 .ensures) refl
+
+returns-6 : tie.Need-returns-6
+unfolding computed arity
+returns-6 c =
+    let s = c .before .before .before .before .before .before .before in
+    let a = s .args in
+    value-two (a .nodes .now) (a .given .now) (a .t .now) (a .column .now) (a .i) (s .pre) 11 (c .before .match .keys6) (val (c .from-two5 .result)) refl 0 0 refl refl (c .from-two5 .ensures) refl
+
+returns-7 : tie.Need-returns-7
+unfolding computed arity
+returns-7 c =
+    let s = c .before .before .before .before .before .before .before in
+    let a = s .args in
+    value-one (a .nodes .now) (a .given .now) (a .t .now) (a .column .now) (a .i) (s .pre) 12 (c .before .match .keys7) (val (c .from-one .result)) refl 0 refl (c .from-one .ensures) refl
+
+returns-8 : tie.Need-returns-8
+unfolding computed arity
+returns-8 c =
+    let s = c .before .before .before .before .before .before .before in
+    let a = s .args in
+    let k = c .before .match .keys8 in
+    as-value (a .nodes .now) (a .given .now) (a .t .now) (a .column .now) (a .i) (s .pre) 13 k (val (c .from-three .result)) refl
+    (c .from-three .ensures ∙ rw (value-of (a .nodes .now) (a .given .now) (a .t .now) (a .column .now) (a .i) (s .pre) (field (a .nodes .now) (a .i) 1) (first (a .nodes .now) (a .given .now) (a .t .now) (a .column .now) (a .i) (s .pre) 13 k refl), value-of (a .nodes .now) (a .given .now) (a .t .now) (a .column .now) (a .i) (s .pre) (field (a .nodes .now) (a .i) 2) (second (a .nodes .now) (a .given .now) (a .t .now) (a .column .now) (a .i) (s .pre) 13 k refl), value-of (a .nodes .now) (a .given .now) (a .t .now) (a .column .now) (a .i) (s .pre) (field (a .nodes .now) (a .i) 3) (third (a .nodes .now) (a .given .now) (a .t .now) (a .column .now) (a .i) (s .pre) 13 k refl)))
+
+returns-9 : tie.Need-returns-9
+unfolding computed arity
+returns-9 c =
+    let s = c .before .before .before .before .before .before .before in
+    let a = s .args in
+    value-one (a .nodes .now) (a .given .now) (a .t .now) (a .column .now) (a .i) (s .pre) 14 (c .before .match .keys9) (val (c .from-one2 .result)) refl 0 refl (c .from-one2 .ensures) refl
+
+returns-10 : tie.Need-returns-10
+unfolding computed arity
+returns-10 c =
+    let s = c .before .before .before .before .before .before .before .before .before .before in
+    let a = s .args in
+    let k = c .before .before .before .before .match .keys10 in
+    let e = (c .before .wide .ensures ∙ sort-of (a .nodes .now) (a .given .now) (a .t .now) (a .column .now) (a .i) (s .pre) (field (a .nodes .now) (a .i) 2) (second (a .nodes .now) (a .given .now) (a .t .now) (a .column .now) (a .i) (s .pre) 15 k refl)) in
+    value-two (a .nodes .now) (a .given .now) (a .t .now) (a .column .now) (a .i) (s .pre) 15 k (val (c .from-two6 .result)) refl 0 (c .before .wide .result) refl refl (c .from-two6 .ensures) (rw e)
+
+returns-11 : tie.Need-returns-11
+unfolding computed arity
+returns-11 c =
+    let s = c .before .before .before .before .before .before .before .before .before .before in
+    let a = s .args in
+    let k = c .before .before .before .before .match .keys11 in
+    let e = (c .before .wide2 .ensures ∙ sort-of (a .nodes .now) (a .given .now) (a .t .now) (a .column .now) (a .i) (s .pre) (field (a .nodes .now) (a .i) 1) (first (a .nodes .now) (a .given .now) (a .t .now) (a .column .now) (a .i) (s .pre) 20 k refl)) in
+    value-two (a .nodes .now) (a .given .now) (a .t .now) (a .column .now) (a .i) (s .pre) 20 k (val (c .from-two7 .result)) refl (c .before .wide2 .result) 0 refl refl (c .from-two7 .ensures) (rw e)
+
+returns-12 : tie.Need-returns-12
+unfolding computed arity
+returns-12 c =
+    let s = c .before .before .before .before .before .before .before .before .before .before in
+    let a = s .args in
+    let k = c .before .before .before .before .match .keys12 in
+    let e = (c .before .wide3 .ensures ∙ sort-of (a .nodes .now) (a .given .now) (a .t .now) (a .column .now) (a .i) (s .pre) (field (a .nodes .now) (a .i) 1) (first (a .nodes .now) (a .given .now) (a .t .now) (a .column .now) (a .i) (s .pre) 21 k refl)) in
+    value-two (a .nodes .now) (a .given .now) (a .t .now) (a .column .now) (a .i) (s .pre) 21 k (val (c .from-two8 .result)) refl (c .before .wide3 .result) 0 refl refl (c .from-two8 .ensures) (rw e)
+
+returns-13 : tie.Need-returns-13
+unfolding computed arity
+returns-13 c =
+    let s = c .before .before .before .before .before .before .before .before .before .before in
+    let a = s .args in
+    let k = c .before .before .before .before .match .keys13 in
+    let e = (c .before .wide4 .ensures ∙ sort-of (a .nodes .now) (a .given .now) (a .t .now) (a .column .now) (a .i) (s .pre) (field (a .nodes .now) (a .i) 1) (first (a .nodes .now) (a .given .now) (a .t .now) (a .column .now) (a .i) (s .pre) 22 k refl)) in
+    value-one (a .nodes .now) (a .given .now) (a .t .now) (a .column .now) (a .i) (s .pre) 22 k (val (c .from-one3 .result)) refl (c .before .wide4 .result) refl (c .from-one3 .ensures) (rw e)
+
+returns-14 : tie.Need-returns-14
+unfolding computed arity
+returns-14 c =
+    let s = c .before .before .before .before .before .before .before in
+    let a = s .args in
+    value-one (a .nodes .now) (a .given .now) (a .t .now) (a .column .now) (a .i) (s .pre) 25 (c .before .match .keys14) (val (c .from-one4 .result)) refl 0 refl (c .from-one4 .ensures) refl
+
+returns-15 : tie.Need-returns-15
+unfolding computed arity
+returns-15 c =
+    let s = c .before .before .before .before .before .before .before in
+    let a = s .args in
+    value-one (a .nodes .now) (a .given .now) (a .t .now) (a .column .now) (a .i) (s .pre) 26 (c .before .match .keys15) (val (c .from-one5 .result)) refl 0 refl (c .from-one5 .ensures) refl
+
+returns-16 : tie.Need-returns-16
+unfolding rowValue rowSort
+returns-16 c =
+    let r = c .before .before .before .before .before .before .before .before .before .before .pre in
+    rw (given-else _ _ _ _ _ _ _ (c .before .before .before .before .match .rest .0 .0 .0 .0 .0 .0 .0 .0 .0 .0 .0 .0 .0 .0 .1) (c .before .before .before .before .match .rest .0 .0 .0 .0 .0 .0 .0 .0 .0 .0 .0 .0 .0 .1) (c .before .before .before .before .match .rest .0 .0 .0 .0 .0 .0 .0 .0 .0 .0 .0 .0 .1) (c .before .before .before .before .match .rest .0 .0 .0 .0 .0 .0 .0 .0 .0 .0 .0 .1) (c .before .before .before .before .match .rest .0 .0 .0 .0 .0 .0 .0 .0 .0 .0 .1) (c .before .before .before .before .match .rest .0 .0 .0 .0 .0 .0 .0 .0 .0 .1) (c .before .before .before .before .match .rest .0 .0 .0 .0 .0 .0 .0 .0 .1) (c .before .before .before .before .match .rest .0 .0 .0 .0 .0 .0 .0 .1) (c .before .before .before .before .match .rest .0 .0 .0 .0 .0 .0 .1) (c .before .before .before .before .match .rest .0 .0 .0 .0 .0 .1) (c .before .before .before .before .match .rest .0 .0 .0 .0 .1) (c .before .before .before .before .match .rest .0 .0 .0 .1) (c .before .before .before .before .match .rest .0 .0 .1) (c .before .before .before .before .match .rest .0 .1) (c .before .before .before .before .match .rest .1) (r .sorted), c .hold .ensures, c .before .before .wide5 .ensures ∙ r .own, c .before .pair-at .ensures)
 
 pub node-value-spec : {M : Type 1} → statement M
 node-value-spec =
@@ -113,26 +395,63 @@ node-value-spec =
     mul-j
     mul-k
     shared-slice-read-k
-    is-given-requires
+    from-none-requires
+    from-two-requires
+    from-two-requires-2
+    from-two-requires-3
+    from-two-requires-4
+    from-two-requires-5
+    from-one-requires
+    from-three-requires
+    from-one-requires-2
+    add-wide
     mul-wide
     shared-slice-read-wide
+    mul-wide-2
+    shared-slice-read-wide-2
     wide-requires
+    from-two-requires-6
+    add-wide-2
+    mul-wide-3
+    shared-slice-read-wide-3
+    mul-wide-4
+    shared-slice-read-wide-4
+    wide-requires-2
+    from-two-requires-7
+    add-wide-3
+    mul-wide-5
+    shared-slice-read-wide-5
+    mul-wide-6
+    shared-slice-read-wide-6
+    wide-requires-3
+    from-two-requires-8
+    add-wide-4
+    mul-wide-7
+    shared-slice-read-wide-7
+    mul-wide-8
+    shared-slice-read-wide-8
+    wide-requires-4
+    from-one-requires-3
+    from-one-requires-4
+    from-one-requires-5
+    mul-wide-9
+    shared-slice-read-wide-9
+    wide-requires-5
     pair-at-requires
     hold-requires
     returns
-    add-a
-    mul-a
-    shared-slice-read-a
-    add-b
-    mul-b
-    shared-slice-read-b
-    add-c
-    mul-c
-    shared-slice-read-c
-    sort-at-requires
-    sort-at-requires-2
-    value-at-requires
-    value-at-requires-2
-    value-at-requires-3
-    compute-requires
-    returns-2)
+    returns-2
+    returns-3
+    returns-4
+    returns-5
+    returns-6
+    returns-7
+    returns-8
+    returns-9
+    returns-10
+    returns-11
+    returns-12
+    returns-13
+    returns-14
+    returns-15
+    returns-16)

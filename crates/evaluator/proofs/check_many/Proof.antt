@@ -1,8 +1,8 @@
 use Rattle.evaluator.specs.Laws.{table-checked}
 use Rattle.evaluator.proofs.Filled.{enough}
 use borrow.Author.Needs.{needs}
-use Rattle.evaluator.proofs.check.Statement.{statement}
-use Rattle.evaluator.proofs.check.Tie as tie
+use Rattle.evaluator.proofs.check_many.Statement.{statement}
+use Rattle.evaluator.proofs.check_many.Tie as tie
 
 slice-aggregate-fill : tie.Need-slice-aggregate-fill
 slice-aggregate-fill c = search needs
@@ -13,5 +13,5 @@ fill-requires c κs = search needs
 returns : tie.Need-returns
 returns c = table-checked (enough _) (c .before .fill .ensures)
 
-pub check-spec : {M : Type 1} → statement M
-check-spec = tie.close (tie.spec slice-aggregate-fill fill-requires returns)
+pub check-many-spec : {M : Type 1} → statement M
+check-many-spec = tie.close (tie.spec slice-aggregate-fill fill-requires returns)
