@@ -167,7 +167,7 @@ fn lifted(works: &[&str]) -> List {
     use crate::{steps, work};
     use plain::state::{DEPTH, NODES, STATE};
     /// Sequences of each work, which are more than a list has room for.
-    const SEQUENCES: usize = 600;
+    const SEQUENCES: usize = 300;
 
     let number = |name: &&str| work::WORKS.iter().position(|known| known == name);
     let numbers = works.iter().map(|name| number(name).expect("a work"));

@@ -1,5 +1,5 @@
 //! `lists FOLDER`: writes the ready-made lists of each work into a file of
-//! the folder, for the program in `counted/values.c`.
+//! the folder, for the program in `counted/values.c`, and prints its name.
 //!
 //! A file has the words of each of its lists, eight bytes each, low byte
 //! first: how many nodes it has, their rows, what is given.
@@ -16,7 +16,7 @@ fn main() -> ExitCode {
         return ExitCode::FAILURE;
     };
     if cfg!(no_oracle) {
-        println!("{}", differential::NO_ORACLE);
+        eprintln!("{}", differential::NO_ORACLE);
     }
     for work in works() {
         let words = work.lists();
@@ -27,6 +27,7 @@ fn main() -> ExitCode {
             eprintln!("{}: {why}", path.display());
             return ExitCode::FAILURE;
         }
+        println!("{}", work.name);
     }
     ExitCode::SUCCESS
 }
