@@ -62,7 +62,8 @@ static inline uint64_t float_at(const uint16_t *sorts, uint64_t n, uint64_t x)
     return x < n && sorts[x] > WIDEST ? sorts[x] : 0;
 }
 
-/* The sort of node n from its row and the sorts of the earlier nodes, or 0. */
+/* The sort of node n from its row and the sorts of the earlier nodes, or 0. Those are not 0, and a format is over the
+ * widest bits: so a sum or an 'or' of two sorts can be small only where both are bits. */
 static inline uint64_t sort_of(const uint64_t *row, uint64_t n, const uint16_t *sorts)
 {
     uint64_t a = row[1], b = row[2], c = row[3], s;

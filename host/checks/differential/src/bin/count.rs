@@ -38,9 +38,9 @@ mod counted {
     use std::process::Command;
 
     use differential::lists;
-    use differential::work::{Lists, WORKS, sequences};
+    use differential::work::{Lists, ROWS, WORKS, sequences};
     use plain::{FLAT, Instruction};
-    use sleetgate_sys::{DETAIL, EFFECT, FORM, NAMED, READ};
+    use sleetgate_sys::{DETAIL, EFFECT, FORM, NAMED, READ, VALUE};
 
     /// The calls that are counted.
     pub const CALLS: [&str; 10] = [
@@ -142,11 +142,14 @@ mod counted {
         assert_eq!(answer, 0);
     }
 
+    /// Check or evaluate the lists of a work. Nothing is made or dropped
+    /// between the calls and behind them: on Arm callgrind misses the end
+    /// of some, and goes on counting.
     fn on_lists(call: &str, work: &str) -> usize {
         let work = lists::work(work).unwrap_or_else(|| panic!("no such work: {work}"));
+        let (mut column, mut out) = (vec![0; ROWS * VALUE], [0; NAMED]);
         let mut units = 0;
-        for lists::Ready { list, given } in work.lists().iter().take(LISTS) {
-            let (mut column, mut out) = (vec![0; given.len()], [0; NAMED]);
+        for lists::Ready { list, given } in work.lists().leak().iter().take(LISTS) {
             let (nodes, count) = (black_box(&list.nodes), list.len());
             let answer = match call {
                 "x87_check" => sleetgate_sys::check(nodes, count, &mut out),
