@@ -7,8 +7,8 @@
 #include <string.h>
 
 typedef uint32_t check(const uint64_t *nodes, size_t nodes_len, size_t count, uint64_t *out, size_t out_len);
-typedef uint32_t evaluate(const uint64_t *nodes, size_t nodes_len, size_t count, const uint64_t *given, size_t given_len,
-                          uint64_t *column, size_t column_len, uint64_t *out, size_t out_len);
+typedef uint32_t evaluate(const uint64_t *nodes, size_t nodes_len, size_t count, const uint64_t *given,
+                          size_t given_len, uint64_t *column, size_t column_len, uint64_t *out, size_t out_len);
 check x87_check, peer_check;
 evaluate x87_evaluate, peer_evaluate;
 
@@ -39,6 +39,23 @@ static uint64_t summed(uint64_t sum, const uint64_t *column, size_t count)
     return sum;
 }
 
+/* One call on a list, which is not refused. */
+static void call(const uint64_t *list, uint64_t *column, int values, int peer)
+{
+    size_t n = list[0];
+    const uint64_t *nodes = list + 1, *given = nodes + 4 * n;
+    uint64_t out = 0;
+    uint32_t answer;
+    if (values)
+        answer = (peer ? peer_evaluate : x87_evaluate)(nodes, 4 * n, n, given, 2 * n, column, 2 * n, &out, 1);
+    else
+        answer = (peer ? peer_check : x87_check)(nodes, 4 * n, n, &out, 1);
+    if (answer) {
+        fprintf(stderr, "answer %u, node %lu\n", answer, (unsigned long)out);
+        exit(1);
+    }
+}
+
 int main(int argc, char **argv)
 {
     if (argc != 5) {
@@ -50,18 +67,11 @@ int main(int argc, char **argv)
     size_t length, nodes = 0;
     uint64_t sum = 0, *list = words(argv[1], &length), *end = list + length;
     for (; list < end; list += 1 + 6 * list[0]) {
-        size_t n = list[0];
-        uint64_t *column = calloc(2 * n, 8), out = 0, *given = list + 1 + 4 * n;
-        for (unsigned long i = 0; i < times; i++) {
-            uint32_t answer = values ? (peer ? peer_evaluate : x87_evaluate)(list + 1, 4 * n, n, given, 2 * n, column, 2 * n, &out, 1)
-                                     : (peer ? peer_check : x87_check)(list + 1, 4 * n, n, &out, 1);
-            if (answer) {
-                fprintf(stderr, "answer %u, node %lu\n", answer, (unsigned long)out);
-                return 1;
-            }
-        }
-        nodes += n;
-        sum = summed(sum, column, 2 * n);
+        uint64_t *column = calloc(2 * list[0], 8);
+        for (unsigned long i = 0; i < times; i++)
+            call(list, column, values, peer);
+        nodes += list[0];
+        sum = summed(sum, column, 2 * list[0]);
         free(column);
     }
     printf("%zu %016lx\n", nodes, (unsigned long)sum);

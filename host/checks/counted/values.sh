@@ -1,6 +1,6 @@
 #!/bin/bash
-# values.sh OLD.a NEW.a: instructions a node of x87_check and x87_evaluate in two libraries for x86-64, and of the peer,
-# over the ready-made lists. QEMU runs the programs, and its plugin counts. The values of all three are compared.
+# values.sh OLD.a NEW.a: instructions a node of x87_check and x87_evaluate in two libraries for x86-64, and of the
+# peer, over the ready-made lists. QEMU runs the programs, and its plugin counts. The values of all three are compared.
 # PEER_CC names another C compiler for x86-64, of the peer alone.
 set -euo pipefail
 [ $# = 2 ] || { echo "usage: $0 OLD.a NEW.a" >&2; exit 1; }

@@ -1,9 +1,8 @@
 /* The check of sorts and the evaluation of a list, written by hand in C: what the library's two calls are measured
- * against. Answers, words that are told and refusals are those of x87_check and x87_evaluate (the manual, sections 4 to 7).
- */
+   against. Answers, words that are told and refusals are those of x87_check and x87_evaluate (the manual, sections
+   4 to 7). */
 #include <stddef.h>
 #include <stdint.h>
-#include <string.h>
 
 enum { DONE = 0, NO_SORT = 8, TOO_WIDE = 9, TOO_SHORT = 10 };
 
@@ -63,7 +62,7 @@ static inline uint64_t float_at(const uint16_t *sorts, uint64_t n, uint64_t x)
 }
 
 /* The sort of node n from its row and the sorts of the earlier nodes, or 0. Those are not 0, and a format is over the
- * widest bits: so a sum or an 'or' of two sorts can be small only where both are bits. */
+   widest bits: so a sum or an 'or' of two sorts is small only where both are bits. */
 static inline uint64_t sort_of(const uint64_t *row, uint64_t n, const uint16_t *sorts)
 {
     uint64_t a = row[1], b = row[2], c = row[3], s;
@@ -147,7 +146,7 @@ static inline void put(uint64_t *to, uint64_t lo, uint64_t hi)
     to[1] = hi;
 }
 
-/* Give a float, every NaN as the one. */
+/* Give a float of any pattern: every NaN becomes the one. The functions below know of no other. */
 static inline void put_float(uint64_t *to, const uint64_t *x, uint64_t format)
 {
     uint64_t lo = x[0], hi = x[1];
@@ -156,10 +155,11 @@ static inline void put_float(uint64_t *to, const uint64_t *x, uint64_t format)
             put(to, 0xc000000000000000, 0x3fff);
         else
             put(to, lo, hi);
-    } else if (format == DOUBLE)
+    } else if (format == DOUBLE) {
         put(to, lo << 1 > 0xffe0000000000000 ? 0x7ff8000000000000 : lo, 0);
-    else
+    } else {
         put(to, (lo & 0x7fffffff) > 0x7f800000 ? 0x7fc00000 : lo, 0);
+    }
 }
 
 static inline int is_nan(const uint64_t *x, uint64_t format)
@@ -169,19 +169,17 @@ static inline int is_nan(const uint64_t *x, uint64_t format)
     return x[0] == (format == DOUBLE ? 0x7ff8000000000000 : 0x7fc00000);
 }
 
+/* The number of a pattern that the machine has numbers for. */
 static inline double of_double(const uint64_t *x)
 {
-    double number;
-    memcpy(&number, x, sizeof number);
-    return number;
+    union { uint64_t bits; double number; } as = { x[0] };
+    return as.number;
 }
 
 static inline float of_single(const uint64_t *x)
 {
-    uint32_t low = (uint32_t)x[0];
-    float number;
-    memcpy(&number, &low, sizeof number);
-    return number;
+    union { uint32_t bits; float number; } as = { (uint32_t)x[0] };
+    return as.number;
 }
 
 static inline wide of(const uint64_t *x)
@@ -198,7 +196,7 @@ static inline int extended_equal(const uint64_t *x, const uint64_t *y)
     return x[0] == 0 && ((x[1] | y[1]) & 0x3fff) == 0;
 }
 
-/* The NaN is the greatest pattern without a sign, so that nothing is above it. */
+/* The NaN is the greatest pattern without a sign: as x it is below nothing, and as y it is asked for. */
 static inline int extended_less(const uint64_t *x, const uint64_t *y)
 {
     if (y[1] > 0x3fff)
@@ -278,7 +276,9 @@ static inline void run(const uint64_t *nodes, size_t count, const uint64_t *give
         case 22: put(to, is_nan(A, sorts[row[1]]), 0); break;
         case 25: put_float(to, A, row[3]); break;
         case 26: put(to, A[0], A[1]); break;
-        case 16: case 17: case 18: case 19: case 23: case 24: case 28: case 29: put_float(to, taken, sorts[at / 2]); break;
+        case 16: case 17: case 18: case 19: case 23: case 24: case 28: case 29:
+            put_float(to, taken, sorts[at / 2]);
+            break;
         default: __builtin_unreachable();
         }
     }
