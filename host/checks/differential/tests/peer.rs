@@ -4,12 +4,19 @@
 use differential::lists::works;
 use differential::report::Report;
 use differential::subject::{Formulas, Library, Peer};
-use differential::{checks, fewer, values};
+use differential::{checks, fewer, stored, stored_formulas, values};
 use plain::values::VALUE;
 
 fn equal(report: &Report) {
     println!("{report}");
     assert!(report.is_equal(), "{report}");
+}
+
+#[test]
+fn the_peer_answers_as_is_stored() {
+    let file = |name| stored::file(name).expect("it is stored");
+    equal(&stored_formulas::checks(&Peer, &file("checks.bin")));
+    equal(&stored_formulas::values(&Peer, &file("values.bin")));
 }
 
 #[test]
