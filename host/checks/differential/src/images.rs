@@ -12,7 +12,7 @@ use crate::processor::{
 };
 use crate::report::{Report, hex};
 use crate::rng::Rng;
-use crate::subject::Formulas;
+use crate::subject::Images;
 
 /// Bytes and words that a case may lend, and what they hold.
 const BYTES: usize = IMAGE + 3;
@@ -27,7 +27,7 @@ const FRACTION: u32 = 63;
 const BIAS: i32 = 0x3fff;
 
 /// Compare `size` images.
-pub fn run(subject: &impl Formulas, size: u64, seed: u64) -> Report {
+pub fn run(subject: &impl Images, size: u64, seed: u64) -> Report {
     let mut rng = Rng::new(seed);
     let mut run = Run {
         subject,
@@ -55,7 +55,7 @@ struct Run<'a, S> {
     report: Report,
 }
 
-impl<S: Formulas> Run<'_, S> {
+impl<S: Images> Run<'_, S> {
     /// Any image: what is read is what the processor finds in it, and
     /// what is written is what the processor stores of it.
     fn any(&mut self, rng: &mut Rng) {

@@ -16,6 +16,7 @@ pub mod instructions;
 pub mod lift;
 #[cfg(not(no_oracle))]
 pub mod listings;
+pub mod lists;
 pub mod names;
 pub mod operands;
 pub mod patterns;

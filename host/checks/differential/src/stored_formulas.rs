@@ -6,7 +6,7 @@ use plain::values::VALUE;
 
 use crate::report::{Report, hex};
 use crate::sample_formulas::{IMAGE_ROW, UNWRITTEN};
-use crate::subject::Formulas;
+use crate::subject::{Formulas, Images};
 
 /// What is left of a stored file.
 struct Rest<'a>(&'a [u8]);
@@ -81,7 +81,7 @@ pub fn values(subject: &impl Formulas, stored: &[u8]) -> Report {
 }
 
 /// Compare both image calls with the rows of `images.bin`.
-pub fn images(subject: &impl Formulas, stored: &[u8]) -> Report {
+pub fn images(subject: &impl Images, stored: &[u8]) -> Report {
     let mut report = Report::default();
     assert_eq!(stored.len() % IMAGE_ROW, 0, "whole rows");
     for row in stored.chunks(IMAGE_ROW) {
@@ -95,7 +95,7 @@ pub fn images(subject: &impl Formulas, stored: &[u8]) -> Report {
 }
 
 /// The row with the subject's answers in the place of the stored ones.
-fn image_row(subject: &impl Formulas, row: &[u8]) -> Vec<u8> {
+fn image_row(subject: &impl Images, row: &[u8]) -> Vec<u8> {
     let mut rest = Rest(row);
     let image = rest.bytes(IMAGE);
     let free = rest.words(VALUE);

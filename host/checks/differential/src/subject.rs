@@ -34,10 +34,14 @@ pub trait RecordLifter: Subject {
     ) -> u32;
 }
 
-/// The calls on images and on lists of nodes.
-pub trait Formulas {
+/// The calls on images.
+pub trait Images {
     fn image_read(&self, image: &[u8], low: u64, high: u64, out: &mut [u64]) -> u32;
     fn image_write(&self, image: &mut [u8], low: u64, high: u64) -> u32;
+}
+
+/// The calls on lists of nodes.
+pub trait Formulas {
     fn check(&self, nodes: &[u64], count: usize, out: &mut [u64]) -> u32;
     fn evaluate(
         &self,
@@ -108,7 +112,7 @@ impl RecordLifter for Library {
     }
 }
 
-impl Formulas for Library {
+impl Images for Library {
     fn image_read(&self, image: &[u8], low: u64, high: u64, out: &mut [u64]) -> u32 {
         untested::image_read(image, low, high, out)
     }
@@ -116,7 +120,9 @@ impl Formulas for Library {
     fn image_write(&self, image: &mut [u8], low: u64, high: u64) -> u32 {
         untested::image_write(image, low, high)
     }
+}
 
+impl Formulas for Library {
     fn check(&self, nodes: &[u64], count: usize, out: &mut [u64]) -> u32 {
         untested::check(nodes, count, out)
     }
@@ -147,6 +153,26 @@ impl Texts for Library {
 
     fn smt_read(&self, text: &[u8], nodes: &mut [u64], out: &mut [u64]) -> u32 {
         untested::smt_read(text, nodes, out)
+    }
+}
+
+/// The peer that is written in C, on any slices.
+pub struct Peer;
+
+impl Formulas for Peer {
+    fn check(&self, nodes: &[u64], count: usize, out: &mut [u64]) -> u32 {
+        peer::check(nodes, count, out)
+    }
+
+    fn evaluate(
+        &self,
+        nodes: &[u64],
+        count: usize,
+        given: &[u64],
+        column: &mut [u64],
+        out: &mut [u64],
+    ) -> u32 {
+        peer::evaluate(nodes, count, given, column, out)
     }
 }
 

@@ -134,6 +134,30 @@ pub fn run(subject: &impl Formulas, solver: Solver, size: u64, seed: u64) -> io:
     Ok(report)
 }
 
+/// Compare the values of `size` lists with those that another subject has,
+/// and beside them calls that are refused.
+pub fn beside(subject: &impl Formulas, other: &impl Formulas, size: u64, seed: u64) -> Report {
+    let grid = Grid::default();
+    let mut rng = Rng::new(seed);
+    let mut report = Report::default();
+    while report.compared < size {
+        let case = case(&grid, &mut rng);
+        refused(subject, &case, &mut rng, &mut report);
+        alike(subject, other, &case, &mut report);
+    }
+    report
+}
+
+/// A call that both answer in the same way.
+pub fn alike(subject: &impl Formulas, other: &impl Formulas, case: &Case, report: &mut Report) {
+    let (got, expected) = (case.asked(subject), case.asked(other));
+    report.count(expected.number);
+    report.note("nodes evaluated", case.count as u64);
+    if got != expected {
+        report.differs(|| say_values(case, &expected, &got, true));
+    }
+}
+
 /// A list with values that fit, of which a few more words may be lent.
 pub fn case(grid: &Grid, rng: &mut Rng) -> Case {
     let list = if rng.one_in(8) {

@@ -6,7 +6,7 @@ use std::sync::Once;
 
 use differential::report::Report;
 use differential::solver::Solver;
-use differential::subject::{Formulas, Library, RecordLifter, Subject};
+use differential::subject::{Formulas, Images, Library, RecordLifter, Subject};
 use differential::{
     checks, fewer, images, left_out, record_lifts, stored, stored_formulas, values,
 };
@@ -75,7 +75,7 @@ impl Faulty {
     }
 }
 
-impl Formulas for Faulty {
+impl Images for Faulty {
     fn image_read(&self, image: &[u8], low: u64, high: u64, out: &mut [u64]) -> u32 {
         let number = Library.image_read(image, low, high, out);
         if let (Some(misimage), 0) = (self.misimage, number) {
@@ -92,7 +92,9 @@ impl Formulas for Faulty {
         }
         number
     }
+}
 
+impl Formulas for Faulty {
     fn check(&self, nodes: &[u64], count: usize, out: &mut [u64]) -> u32 {
         let number = Library.check(&self.seen(nodes), count, out);
         self.judged(number, out)

@@ -1,65 +1,76 @@
 //! `bench_values [SECONDS]`: the cost per node of the sort check and of
-//! the evaluator as lists grow, and of z3 on the same lists.
+//! the evaluator, and of the peer that is written in C, on the ready-made
+//! lists; and of z3 on those of all kinds.
 //!
-//! Each size is measured on as many lists as have some 65,535 nodes in
-//! all. z3 is handed them in one process and prints every value; its time
-//! is that of the process, from its start to its end. The values are
-//! compared.
+//! The library and the peer take turns on the same lists, and the values
+//! of both are compared. z3 is handed the lists in one process and prints
+//! every value; its time is that of the process, from its start to its
+//! end. Its values are compared too.
 
 use std::hint::black_box;
 use std::process::ExitCode;
 use std::time::Instant;
 
-use differential::formulas::{List, random};
-use differential::rng::Rng;
+use differential::lists::{self, Ready, works};
 use differential::sexpr;
 use differential::smtlib::{Formula, Pattern};
 use differential::solver::Solver;
 use plain::values::{VALUE, words};
 
-/// Nodes of a list, and of all lists of a size.
-const SIZES: [usize; 4] = [100, 1_000, 10_000, 65_535];
-const NODES: usize = 65_535;
-
 /// Turns, of which the middle one counts.
 const ROUNDS: usize = 5;
 
-/// A list, what is given to it, and the column that is lent.
+/// Whose calls are made.
+#[derive(Clone, Copy)]
+enum Side {
+    Library,
+    Peer,
+}
+
+/// A list with what is given to it, and the columns that are lent to the
+/// library and to the peer.
 struct Work {
-    list: List,
-    given: Vec<u64>,
-    column: Vec<u64>,
+    ready: Ready,
+    columns: [Vec<u64>; 2],
 }
 
 impl Work {
-    fn new(rng: &mut Rng, size: usize) -> Self {
-        let list = random(rng, size).first(size);
-        let given = list.given(rng);
+    fn new(ready: Ready) -> Self {
+        let column = vec![0; ready.given.len()];
         Self {
-            list,
-            column: vec![0; given.len()],
-            given,
+            ready,
+            columns: [column.clone(), column],
         }
     }
 
-    fn check(&self) {
+    fn check(&mut self, side: Side) {
+        let list = &self.ready.list;
+        let check = match side {
+            Side::Library => sleetgate_sys::check,
+            Side::Peer => peer::check,
+        };
         let mut out = [0];
-        let answer = sleetgate_sys::check(black_box(&self.list.nodes), self.list.len(), &mut out);
+        let answer = check(black_box(&list.nodes), list.len(), &mut out);
         assert_eq!((answer, out), (0, [0]));
     }
 
-    fn evaluate(&mut self) {
-        let (nodes, count) = (black_box(&self.list.nodes), self.list.len());
-        let mut out = [0];
-        let answer = sleetgate_sys::evaluate(nodes, count, &self.given, &mut self.column, &mut out);
+    fn evaluate(&mut self, side: Side) {
+        let Ready { list, given } = &self.ready;
+        let evaluate = match side {
+            Side::Library => sleetgate_sys::evaluate,
+            Side::Peer => peer::evaluate,
+        };
+        let column = &mut self.columns[side as usize];
+        let (nodes, mut out) = (black_box(&list.nodes), [0]);
+        let answer = evaluate(nodes, list.len(), given, column, &mut out);
         assert_eq!((answer, out), (0, [0]));
     }
 
     fn formula(&self) -> Formula<'_> {
         Formula {
-            nodes: &self.list.nodes,
-            sorts: &self.list.sorts,
-            given: &self.given,
+            nodes: &self.ready.list.nodes,
+            sorts: &self.ready.list.sorts,
+            given: &self.ready.given,
         }
     }
 }
@@ -70,42 +81,46 @@ fn main() -> ExitCode {
         return ExitCode::FAILURE;
     }
     differential::tell_unmeasured();
+    if cfg!(no_oracle) {
+        println!("{}", differential::NO_ORACLE);
+    }
     let seconds = std::env::args().nth(1).and_then(|s| s.parse().ok());
-    let seconds = seconds.unwrap_or(1.0);
+    let seconds = seconds.unwrap_or(0.2);
     let solver = Solver::Z3.at_hand();
     if solver {
-        let started = middle(|| z3_time(""));
+        let started = middle((0..ROUNDS).map(|_| z3_time("")));
         println!("z3 without a list: {:.1} ms", started * 1e3);
     } else {
         println!("{}", Solver::Z3.missing());
     }
-    println!(
-        "{:>7} {:>12} {:>12} {:>12}",
-        "nodes", "check", "evaluate", "z3"
-    );
-    for size in SIZES {
-        measure(size, seconds, solver);
+    let head = ["check", "peer", "ratio", "evaluate", "peer", "ratio", "z3"];
+    let head = head.map(|word| format!("{word:>9}")).join("");
+    println!("{:<17}{head}", "list");
+    for work in works() {
+        measure(&work, seconds, solver);
     }
-    println!("nanoseconds per node");
+    println!("nanoseconds per node; a ratio is library / peer");
     ExitCode::SUCCESS
 }
 
-/// Measure lists of one size, and print one line.
-fn measure(size: usize, seconds: f64, solver: bool) {
-    let mut rng = Rng::new(87);
-    let lists = NODES / size;
-    let mut work: Vec<Work> = (0..lists).map(|_| Work::new(&mut rng, size)).collect();
-    let nodes = (lists * size) as f64;
-    let share = seconds / ROUNDS as f64;
-    let check = middle(|| pass_time(share, || work.iter().for_each(Work::check)));
-    let evaluate = middle(|| pass_time(share, || work.iter_mut().for_each(Work::evaluate)));
-    let [check, evaluate] = [check, evaluate].map(|time| time * 1e9 / nodes);
-    print!("{size:>7} {check:>12.2} {evaluate:>12.2}");
-    if solver {
+/// Measure the lists of a work, and print one line.
+fn measure(lists: &lists::Work, seconds: f64, solver: bool) {
+    let mut work: Vec<Work> = lists.lists().into_iter().map(Work::new).collect();
+    let nodes: usize = work.iter().map(|work| work.ready.list.len()).sum();
+    let per_node = 1e9 / nodes as f64;
+    print!("{:<17}", lists.name);
+    for call in [Work::check, Work::evaluate] {
+        let [library, peer] = in_turn(&mut work, seconds, call).map(|time| time * per_node);
+        print!("{library:>9.2}{peer:>9.2}{:>9.2}", library / peer);
+    }
+    for work in &work {
+        assert!(work.columns[0] == work.columns[1], "the peer's values");
+    }
+    if solver && lists.is_of_all_kinds() {
         let commands = work.iter().map(|w| w.formula().commands(Pattern::Function));
         let commands: String = commands.collect();
-        let z3 = middle(|| z3_time(&commands)) * 1e9 / nodes;
-        print!(" {z3:>12.1}");
+        let z3 = middle((0..ROUNDS).map(|_| z3_time(&commands))) * per_node;
+        print!("{z3:>9.0}");
         compare(&work, &commands);
     }
     println!();
@@ -119,16 +134,28 @@ fn compare(work: &[Work], commands: &str) {
     for (work, printed) in work.iter().zip(&printed) {
         let (values, _) = work.formula().read(printed).expect("values");
         let column: Vec<u64> = values.iter().flat_map(|&v| words(v)).collect();
-        assert_eq!(column.len(), work.list.len() * VALUE);
-        assert!(column == work.column, "another value");
+        assert_eq!(column.len(), work.ready.list.len() * VALUE);
+        assert!(column == work.columns[0], "another value");
     }
 }
 
+/// Seconds of one pass over all lists by the library and by the peer.
+fn in_turn(work: &mut [Work], seconds: f64, call: fn(&mut Work, Side)) -> [f64; 2] {
+    let mut times = [Vec::new(), Vec::new()];
+    for _ in 0..ROUNDS {
+        for side in [Side::Library, Side::Peer] {
+            let pass = || work.iter_mut().for_each(|work| call(work, side));
+            times[side as usize].push(pass_time(seconds / ROUNDS as f64, pass));
+        }
+    }
+    times.map(|times| middle(times.into_iter()))
+}
+
 /// The middle of some turns.
-fn middle(mut turn: impl FnMut() -> f64) -> f64 {
-    let mut times: Vec<f64> = (0..ROUNDS).map(|_| turn()).collect();
+fn middle(times: impl Iterator<Item = f64>) -> f64 {
+    let mut times: Vec<f64> = times.collect();
     times.sort_by(f64::total_cmp);
-    times[ROUNDS / 2]
+    times[times.len() / 2]
 }
 
 /// Seconds of one pass, of as many as fill the time.

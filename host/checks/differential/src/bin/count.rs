@@ -1,5 +1,6 @@
-//! `count [CALL]`: the machine's instructions in a call of the library, as
-//! callgrind counts them, over calls that are the same for any library.
+//! `count [CALL]`: the machine's instructions in a call of the library or
+//! of the peer, as callgrind counts them, over calls that are the same for
+//! any library.
 //!
 //! Each line is a run of its own under valgrind, which counts inside the
 //! named call alone. `count CALL WORK` is such a run: it makes the calls
@@ -36,14 +37,13 @@ mod counted {
     use std::hint::black_box;
     use std::process::Command;
 
-    use differential::formulas::random;
-    use differential::rng::Rng;
-    use differential::work::{Lists, WORKS, sequences};
+    use differential::lists;
+    use differential::work::{Lists, ROWS, WORKS, sequences};
     use plain::{FLAT, Instruction};
-    use sleetgate_sys::{DETAIL, EFFECT, FORM, NAMED, READ};
+    use sleetgate_sys::{DETAIL, EFFECT, FORM, NAMED, READ, VALUE};
 
     /// The calls that are counted.
-    pub const CALLS: [&str; 8] = [
+    pub const CALLS: [&str; 10] = [
         "x87_lift",
         "x87_lift_record",
         "x87_classify",
@@ -51,30 +51,29 @@ mod counted {
         "x87_effect",
         "x87_read_record",
         "x87_check",
+        "peer_check",
         "x87_evaluate",
+        "peer_evaluate",
     ];
 
-    /// The work of the calls on lists: their nodes are of all kinds.
-    const LISTS: [&str; 1] = ["lists of 1000"];
-
-    /// Sequences of a work, and lists and their nodes.
+    /// Sequences of a work, and the most lists of a work.
     const SEQUENCES: usize = 200;
-    const COUNT: usize = 20;
-    const NODES: usize = 1_000;
+    const LISTS: usize = 20;
 
     /// A line for each call and each of its works.
     pub fn table(calls: &[&str]) {
         for call in calls {
             for work in works(call) {
-                println!("{call:<16} {work:<16} {:>10.1}", counted(call, work));
+                println!("{call:<16} {work:<17} {:>10.1}", counted(call, &work));
             }
         }
     }
 
-    fn works(call: &str) -> &'static [&'static str] {
-        match call {
-            "x87_check" | "x87_evaluate" => &LISTS,
-            _ => &WORKS,
+    fn works(call: &str) -> Vec<String> {
+        if call.ends_with("check") || call.ends_with("evaluate") {
+            lists::works().into_iter().map(|work| work.name).collect()
+        } else {
+            WORKS.map(str::to_owned).to_vec()
         }
     }
 
@@ -101,8 +100,7 @@ mod counted {
     pub fn make(call: &str, work: &str) {
         let units = match WORKS.iter().position(|&w| w == work) {
             Some(number) => on_sequences(call, &sequences(number, SEQUENCES)),
-            None if LISTS.contains(&work) => on_lists(call),
-            None => panic!("no such work: {work}"),
+            None => on_lists(call, work),
         };
         println!("{units}");
     }
@@ -144,22 +142,27 @@ mod counted {
         assert_eq!(answer, 0);
     }
 
-    fn on_lists(call: &str) -> usize {
-        let mut rng = Rng::new(87);
-        for _ in 0..COUNT {
-            let list = random(&mut rng, NODES).first(NODES);
-            let given = list.given(&mut rng);
-            let (mut column, mut out) = (vec![0; given.len()], [0; NAMED]);
-            let nodes = black_box(&list.nodes);
+    /// Check or evaluate the lists of a work. Nothing is made or dropped
+    /// between the calls and behind them: on Arm callgrind misses the end
+    /// of some, and goes on counting.
+    fn on_lists(call: &str, work: &str) -> usize {
+        let work = lists::work(work).unwrap_or_else(|| panic!("no such work: {work}"));
+        let (mut column, mut out) = (vec![0; ROWS * VALUE], [0; NAMED]);
+        let mut units = 0;
+        for lists::Ready { list, given } in work.lists().leak().iter().take(LISTS) {
+            let (nodes, count) = (black_box(&list.nodes), list.len());
             let answer = match call {
-                "x87_check" => sleetgate_sys::check(nodes, list.len(), &mut out),
+                "x87_check" => sleetgate_sys::check(nodes, count, &mut out),
+                "peer_check" => peer::check(nodes, count, &mut out),
                 "x87_evaluate" => {
-                    sleetgate_sys::evaluate(nodes, list.len(), &given, &mut column, &mut out)
+                    sleetgate_sys::evaluate(nodes, count, given, &mut column, &mut out)
                 }
+                "peer_evaluate" => peer::evaluate(nodes, count, given, &mut column, &mut out),
                 _ => panic!("no call on lists: {call}"),
             };
             assert_eq!((answer, out), (0, [0]));
+            units += count;
         }
-        COUNT * NODES
+        units
     }
 }
