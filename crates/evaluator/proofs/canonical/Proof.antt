@@ -5,10 +5,6 @@ use Rattle.evaluator.proofs.Compare.{canon-at}
 use borrow.Author.Needs.{needs}
 use Rattle.evaluator.proofs.canonical.Statement.{statement}
 use Rattle.evaluator.proofs.canonical.Tie as tie
-use Rattle.evaluator.proofs.canonical.Reads as reads
-use Rattle.evaluator.proofs.canonical.Lts as lts
-use Rattle.evaluator.proofs.canonical_by.Reads as canonical-by-reads
-use Rattle.evaluator.proofs.word.Reads as word-reads
 
 word-requires : tie.Need-word-requires
 word-requires c κs = search needs

@@ -8,20 +8,6 @@ use Rattle.evaluator.proofs.Flags.{low-is, both, either, other}
 use borrow.Author.Needs.{needs}
 use Rattle.evaluator.proofs.compute.Statement.{statement}
 use Rattle.evaluator.proofs.compute.Tie as tie
-use Rattle.evaluator.proofs.compute.Reads as reads
-use Rattle.evaluator.proofs.compute.Lts as lts
-use Rattle.evaluator.proofs.canonical.Reads as canonical-reads
-use Rattle.evaluator.proofs.choose.Reads as choose-reads
-use Rattle.evaluator.proofs.equal.Reads as equal-reads
-use Rattle.evaluator.proofs.flag.Reads as flag-reads
-use Rattle.evaluator.proofs.is_nan.Reads as is-nan-reads
-use Rattle.evaluator.proofs.less.Reads as less-reads
-use Rattle.evaluator.proofs.word.Reads as word-reads
-use Rattle.words.proofs.and.Reads as and-reads
-use Rattle.words.proofs.concat.Reads as concat-reads
-use Rattle.words.proofs.eq.Reads as eq-reads
-use Rattle.words.proofs.extract.Reads as extract-reads
-use Rattle.words.proofs.xor.Reads as xor-reads
 
 and-requires : tie.Need-and-requires
 and-requires c κs = search needs

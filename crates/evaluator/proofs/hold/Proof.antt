@@ -4,10 +4,6 @@ use Rattle.evaluator.proofs.Node.{not-float}
 use borrow.Author.Needs.{needs}
 use Rattle.evaluator.proofs.hold.Statement.{statement}
 use Rattle.evaluator.proofs.hold.Tie as tie
-use Rattle.evaluator.proofs.hold.Reads as reads
-use Rattle.evaluator.proofs.hold.Lts as lts
-use Rattle.evaluator.proofs.canonical.Reads as canonical-reads
-use Rattle.sorts.proofs.is_float.Reads as is-float-reads
 
 returns : tie.Need-returns
 unfolding held

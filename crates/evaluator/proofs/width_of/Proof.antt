@@ -3,10 +3,6 @@ use Rattle.evaluator.specs.Fits.{width-bits}
 use borrow.Author.Needs.{needs}
 use Rattle.evaluator.proofs.width_of.Statement.{statement}
 use Rattle.evaluator.proofs.width_of.Tie as tie
-use Rattle.evaluator.proofs.width_of.Reads as reads
-use Rattle.evaluator.proofs.width_of.Lts as lts
-use Rattle.sorts.proofs.is_float.Reads as is-float-reads
-use Rattle.sorts.proofs.pattern_width.Reads as pattern-width-reads
 
 returns : tie.Need-returns
 returns c = sym (width-bits (c .before .args .s) (c .if1 .taken))
