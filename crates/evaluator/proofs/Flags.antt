@@ -1,11 +1,13 @@
--- Numbers of one bit: what the code's words say of two flags.
-use mathlib.Core.Bool.{not, _&&_, _||_}
-use mathlib.Core.Path.{_≡_, refl, sym}
-use Prim.Native.Nat.{ℕ, zero, suc, _+_, _*_, _^_, _<_}
+-- Numbers of one bit: what the code's words say of two flags, and the bits of the kinds that are given.
+use mathlib.Core.Bool.{Bool, true, false, not, _&&_, _||_, Bool·beq}
+use mathlib.Core.Path.{_≡_, refl, sym, subst}
+use Prim.Native.Nat.{ℕ, zero, suc, _+_, _*_, _/_, _^_, _<_}
+use native.Mathlib.Decide.{decLt}
 use native.Mathlib.Omega.{arith}
 use lib.Bits.{bitAnd, bitOr, bitXor}
 use lib.Dec.{eqb}
-use Rattle.evaluator.specs.Value.{flagOf}
+use Rattle.words.specs.Tests.{and-l, and-r}
+use Rattle.evaluator.specs.Value.{flagOf, isGiven}
 use Rattle.evaluator.proofs.Compare.{narrow}
 
 bit : (P : ℕ → Type 0) → P 0 → P 1 → (a : ℕ) → a < 2 → P a
@@ -34,3 +36,28 @@ module _ (ha la : ℕ) (h : ha * 2 ^ 64 + la < 2) where
     pub either : bitOr la lb ≡ flagOf (eqb (ha * 2 ^ 64 + la) 1 || eqb (hb * 2 ^ 64 + lb) 1)
     either = rw (← low-is, ← second)
         (bits (λ (m n : ℕ). bitOr m n ≡ flagOf (eqb m 1 || eqb n 1)) refl refl refl refl la lb (rw (sym low-is) at h) (rw (sym second) at k))
+
+-- what holds of each number below n, by trying each
+below : (ℕ → Bool) → ℕ → Bool
+below P zero = true
+below P (suc n) = P n && below P n
+
+each : (P : ℕ → Bool) (n : ℕ) → below P n ≡ true → (k : ℕ) → k < n → P k ≡ true
+unfolding below
+each P zero e k h = absurd (omega arith)
+each P (suc n) e k h = by (λ l. each P n (and-r (P n) (below P n) e) k l) (decLt k n)
+  where
+    by : (k < n → P k ≡ true) → Dec (k < n) → P k ≡ true
+    by f (yes l) = f l
+    by f (no l) = let q : n ≡ k = omega arith in subst (λ (m : ℕ). P m ≡ true) q (and-l (P n) (below P n) e)
+
+alike : (a b : Bool) → Bool·beq a b ≡ true → a ≡ b
+alike true true e = refl
+alike true false e = sym e
+alike false true e = e
+alike false false e = refl
+
+-- the kinds whose value is given, as the bits of one word
+pub given-bit : (k : ℕ) → k < 64 → eqb (bitAnd (965673022 / 2 ^ k) 1) 1 ≡ isGiven k
+unfolding below
+given-bit k h = alike _ _ (each (λ (m : ℕ). Bool·beq (eqb (bitAnd (965673022 / 2 ^ m) 1) 1) (isGiven m)) 64 refl k h)

@@ -5,6 +5,7 @@ use mathlib.Core.Path.{_≡_, refl, sym, subst, _∙_, ap}
 use mathlib.Core.List.{List, []}
 use Prim.Native.Nat.{ℕ, _+_, _*_, _^_, _≤_, _<_}
 use native.Mathlib.Omega.{arith}
+use native.Mathlib.Decide.{decLt}
 use lib.Dec.{leb, eqb}
 use lib.ListN.{length, getD, take}
 use lib.Seq.{getD-take, take-take, getD-at}
@@ -13,13 +14,13 @@ use Rattle.words.specs.Tests.{and-l, and-r}
 use Rattle.words.specs.Wide.{concatOf}
 use Rattle.sorts.specs.Sorts.{when, isBits, isFloat, sortRow}
 use Rattle.sorts.specs.Lists.{field, rowSort, sorts}
-use Rattle.sorts.specs.Laws.{take-sorts, sorts-suc, length-sorts, passed-sorted, passes-less}
+use Rattle.sorts.specs.Laws.{Passes, take-sorts, sorts-suc, length-sorts, passed-sorted, passes-less}
 use Rattle.needs.specs.Needed.{arity}
 use Rattle.needs.specs.Passing.{earlier}
 use Rattle.evaluator.specs.Formats.{signPlace}
 use Rattle.evaluator.specs.Value.{widthOf, isGiven, computed}
 use Rattle.evaluator.specs.Lists.{pairAt, rowValue, vals, flat}
-use Rattle.evaluator.specs.Inside.{Patterns, ComputeReady, Entry, OneReady, TwoReady, ThreeReady, NodeReady, RunReady}
+use Rattle.evaluator.specs.Inside.{Patterns, ComputeReady, NamesEntry, Entry, OneReady, TwoReady, ThreeReady, NodeReady, RunReady, Kinds}
 use Rattle.evaluator.specs.Fits.{float-case, concat-inside}
 use Rattle.evaluator.specs.Laws.{length-vals, all-fit}
 use Rattle.evaluator.proofs.Column.{operand}
@@ -121,6 +122,53 @@ compares n sa va vb l p = record {
   less = λ _. p;
 }
 
+-- a kind that has a sort is at most 29
+pub kind-most : (k a b c sa sb sc : ℕ) → (sortRow k a b c sa sb sc ≡ 0 → ⊥) → k < 30
+unfolding sortRow
+kind-most k a b c sa sb sc h = go (decLt k 30)
+  where
+    none : 30 ≤ k → 0 ≡ sortRow k a b c sa sb sc
+    none l =
+        skip k 1 _ _ (λ q. omega arith)
+        (skip k 2 _ _ (λ q. omega arith)
+        (skip k 3 _ _ (λ q. omega arith)
+        (skip k 4 _ _ (λ q. omega arith)
+        (skip k 5 _ _ (λ q. omega arith)
+        (skip k 6 _ _ (λ q. omega arith)
+        (skip k 7 _ _ (λ q. omega arith)
+        (skip k 8 _ _ (λ q. omega arith)
+        (skip k 9 _ _ (λ q. omega arith)
+        (skip k 10 _ _ (λ q. omega arith)
+        (skip k 11 _ _ (λ q. omega arith)
+        (skip k 12 _ _ (λ q. omega arith)
+        (skip k 13 _ _ (λ q. omega arith)
+        (skip k 14 _ _ (λ q. omega arith)
+        (skip k 15 _ _ (λ q. omega arith)
+        (skip k 16 _ _ (λ q. omega arith)
+        (skip k 17 _ _ (λ q. omega arith)
+        (skip k 18 _ _ (λ q. omega arith)
+        (skip k 19 _ _ (λ q. omega arith)
+        (skip k 20 _ _ (λ q. omega arith)
+        (skip k 21 _ _ (λ q. omega arith)
+        (skip k 22 _ _ (λ q. omega arith)
+        (skip k 23 _ _ (λ q. omega arith)
+        (skip k 24 _ _ (λ q. omega arith)
+        (skip k 25 _ _ (λ q. omega arith)
+        (skip k 26 _ _ (λ q. omega arith)
+        (skip k 27 _ _ (λ q. omega arith)
+        (skip k 28 _ _ (λ q. omega arith)
+        (skip k 29 _ _ (λ q. omega arith)
+        refl))))))))))))))))))))))))))))
+
+    go : Dec (k < 30) → k < 30
+    go (yes l) = l
+    go (no l) = absurd (h (sym (none (omega arith))))
+
+-- the kinds of a list that passes
+pub kinds : (w : List ℕ) (n : ℕ) → Passes w n → Kinds w n
+unfolding rowSort
+kinds w n p i h = let k = kind-most _ _ _ _ _ _ _ (passed-sorted w n i h p) in omega arith
+
 -- each kind but these is given its value, where it has a sort
 pub given-else : (k a b c sa sb sc : ℕ) → (k ≡ 6 → ⊥) → (k ≡ 7 → ⊥) → (k ≡ 8 → ⊥) → (k ≡ 9 → ⊥) → (k ≡ 10 → ⊥) → (k ≡ 11 → ⊥) → (k ≡ 12 → ⊥) → (k ≡ 13 → ⊥) → (k ≡ 14 → ⊥) → (k ≡ 15 → ⊥) → (k ≡ 20 → ⊥) → (k ≡ 21 → ⊥) → (k ≡ 22 → ⊥) → (k ≡ 25 → ⊥) → (k ≡ 26 → ⊥)
     → (sortRow k a b c sa sb sc ≡ 0 → ⊥) → isGiven k ≡ true
@@ -208,6 +256,13 @@ module _ (w g t col : List ℕ) (i : ℕ) (r : NodeReady w g t col i) where
 
   pub entry : (a : ℕ) → a < i → Entry col a
   entry a h = let l = r .room in let f = r .few in record { room = omega arith; few = omega arith }
+
+  pub names : (p : ℕ) → p ≤ 3 → field w i p < i → NamesEntry w (4 * i + p) t
+  names p l h =
+      let k = r .words in
+      let f = r .few in
+      let m = r .long in
+      record { word = omega arith; names = omega arith; few = (omega arith, omega arith) }
 
   pub value-of : (a : ℕ) → a < i → pairAt col a ≡ getD (vals w g i) a 0
   value-of a h = rw (lt-ltb a i h) at (operand col (vals w g i) i a (r .column) (length-vals w g i))

@@ -30,6 +30,12 @@ pub record ComputeReady (k sa sb va vb : ℕ) : Type 0 where
   pub equal : k ≡ 20 → Patterns sa va vb
   pub less : k ≡ 21 → Patterns sa va vb
 
+-- word j of the list w names an entry of the table
+pub record NamesEntry (w : List ℕ) (j : ℕ) (t : List ℕ) : Type 0 where
+  pub word : j < length w
+  pub names : getD w j 0 < length t
+  pub few : (j ≤ 262143) × (getD w j 0 ≤ 65535)
+
 -- entry a of a column
 pub record Entry (col : List ℕ) (a : ℕ) : Type 0 where
   pub room : 2 * a + 2 ≤ length col
@@ -77,6 +83,10 @@ pub record ScanReady (w g t : List ℕ) (n : ℕ) : Type 0 where
   pub few : n ≤ 65535
   pub long : n ≤ length t
   pub table : take n t ≡ sorts w n
+
+-- no kind of the first n rows is past the bits of a word
+abbrev pub Kinds : List ℕ → ℕ → Type 0
+Kinds w n = (i : ℕ) → i < n → getD w (4 * i) 0 < 64
 
 -- the run over n nodes
 pub record RunReady (w g t col : List ℕ) (n : ℕ) : Type 0 where

@@ -16,7 +16,7 @@ ghost use Rattle.evaluator.specs.Exact.{fEq, fLt, isNaN, canon};
 ghost use Rattle.evaluator.specs.Value.{widthOf, flagOf, isGiven, held, computed};
 ghost use Rattle.evaluator.specs.Lists.{pairAt, rowValue, vals, flat, fitsAt, wideFrom};
 ghost use Rattle.evaluator.specs.Outcome.{outcomeOf, columnAfter};
-ghost use Rattle.evaluator.specs.Inside.{orderOf, Patterns, ComputeReady, Entry, OneReady, TwoReady, ThreeReady, NodeReady, RunReady, ScanReady, Columns, OverReady};
+ghost use Rattle.evaluator.specs.Inside.{orderOf, Patterns, ComputeReady, NamesEntry, Entry, OneReady, TwoReady, ThreeReady, NodeReady, RunReady, ScanReady, Kinds, Columns, OverReady};
 use sorts::Verdict;
 use words::Wide;
 
@@ -245,27 +245,12 @@ fn compute(k: u64, a: u64, b: u64, c: u64, sa: u64, sb: u64, va: Wide, vb: Wide,
     }
 }
 
-// The kinds whose value is given.
+// The kinds whose value is given, a bit for each.
 fn is_given(k: u64) -> bool
+    requires { ⌜ k < 64 ⌝ }
     ensures { λ r. ⌜ r ≡ isGiven k ⌝ }
 {
-    match k {
-        1 => true,
-        2 => true,
-        3 => true,
-        4 => true,
-        5 => true,
-        16 => true,
-        17 => true,
-        18 => true,
-        19 => true,
-        23 => true,
-        24 => true,
-        27 => true,
-        28 => true,
-        29 => true,
-        _ => false,
-    }
+    (0x398f_003eu64 >> k) & 1 == 1
 }
 
 // What a given value is held as.
@@ -298,6 +283,14 @@ fn wide(x: u16) -> u64
     ensures { λ r. ⌜ r ≡ x ⌝ }
 {
     x as u64
+}
+
+// The sort of the node that word j of the list names.
+fn sort_at(nodes: &[u64], j: usize, t: &[u16]) -> u64
+    requires { ⌜ NamesEntry (now nodes) j (now t) ⌝ }
+    ensures { λ r. ⌜ r ≡ getD (now (t .entry)) (getD (now (nodes .entry)) j 0) 0 ⌝ }
+{
+    wide(t[nodes[j] as usize])
 }
 
 // Entry i of a column.
@@ -411,10 +404,10 @@ fn node_value(nodes: &[u64], given: &[u64], t: &[u16], column: &[u64], i: usize)
         12 => from_one(12, nodes, i, 0, column),
         13 => from_three(nodes, i, column),
         14 => from_one(14, nodes, i, 0, column),
-        15 => from_two(15, nodes, i, 0, wide(t[nodes[j + 2] as usize]), column),
-        20 => from_two(20, nodes, i, wide(t[nodes[j + 1] as usize]), 0, column),
-        21 => from_two(21, nodes, i, wide(t[nodes[j + 1] as usize]), 0, column),
-        22 => from_one(22, nodes, i, wide(t[nodes[j + 1] as usize]), column),
+        15 => from_two(15, nodes, i, 0, sort_at(nodes, j + 2, t), column),
+        20 => from_two(20, nodes, i, sort_at(nodes, j + 1, t), 0, column),
+        21 => from_two(21, nodes, i, sort_at(nodes, j + 1, t), 0, column),
+        22 => from_one(22, nodes, i, sort_at(nodes, j + 1, t), column),
         25 => from_one(25, nodes, i, 0, column),
         26 => from_one(26, nodes, i, 0, column),
         _ => hold(wide(t[i]), pair_at(given, i)),
@@ -423,7 +416,7 @@ fn node_value(nodes: &[u64], given: &[u64], t: &[u16], column: &[u64], i: usize)
 
 // Whether the given value of node i fits, where the node takes one.
 fn fits_at(nodes: &[u64], given: &[u64], t: &[u16], i: usize) -> bool
-    requires { ⌜ (i < 65535) × (4 * i + 4 ≤ length (now nodes)) × (2 * i + 2 ≤ length (now given)) × (i < length (now t)) ⌝ }
+    requires { ⌜ (i < 65535) × (4 * i + 4 ≤ length (now nodes)) × (2 * i + 2 ≤ length (now given)) × (i < length (now t)) × (getD (now nodes) (4 * i) 0 < 64) ⌝ }
     ensures { λ r. ⌜ r ≡ fitsAt (now (nodes .entry)) (now (given .entry)) i (getD (now (t .entry)) i 0) ⌝ }
 {
     let j = 4 * i;
@@ -436,7 +429,7 @@ fn fits_at(nodes: &[u64], given: &[u64], t: &[u16], i: usize) -> bool
 
 // The first node whose given value does not fit.
 fn first_wide(nodes: &[u64], count: usize, given: &[u64], t: &[u16]) -> Outcome
-    requires { ⌜ ScanReady (now nodes) (now given) (now t) count ⌝ }
+    requires { ⌜ ScanReady (now nodes) (now given) (now t) count × Kinds (now nodes) count ⌝ }
     ensures { λ r. ⌜ r ≡ wideFrom (now (nodes .entry)) (now (given .entry)) 0 count ⌝ }
 {
     let mut i = 0;

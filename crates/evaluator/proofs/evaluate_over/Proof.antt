@@ -5,6 +5,7 @@ use Rattle.sorts.specs.Laws.{passed-room}
 use Rattle.evaluator.specs.Laws.{done-fits, table-checked}
 use Rattle.evaluator.proofs.Filled.{scanned}
 use Rattle.evaluator.proofs.Ends.{ended}
+use Rattle.evaluator.proofs.Node.{kinds}
 use borrow.Author.Needs.{needs}
 use Rattle.evaluator.proofs.evaluate_over.Statement.{statement}
 use Rattle.evaluator.proofs.evaluate_over.Tie as tie
@@ -22,7 +23,11 @@ enum-told-2 : tie.Need-enum-told-2
 enum-told-2 c = search needs
 
 first-wide-requires : tie.Need-first-wide-requires
-first-wide-requires c κs = let s = c .before .before .before .before .before .before .before .before .before .before .before in scanned _ _ _ _ _ _ (s .pre .enough) (c .before .before .before .before .before .fill .ensures) (c .before .enum-told2 .given .1) (s .pre .columns .gave)
+first-wide-requires c κs =
+    let s = c .before .before .before .before .before .before .before .before .before .before .before in
+    let t = c .before .before .before .before .before .fill .ensures in
+    let p = c .before .enum-told2 .given .1 in
+    (scanned _ _ _ _ _ _ (s .pre .enough) t p (s .pre .columns .gave), kinds _ _ (passed-room _ _ (sym (table-checked (s .pre .enough) t) ∙ p) .passes))
 
 enum-told-3 : tie.Need-enum-told-3
 enum-told-3 c = search needs

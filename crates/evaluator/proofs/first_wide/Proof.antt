@@ -21,7 +21,10 @@ loop-holds : tie.Need-loop-holds Inv-loop μ-loop
 loop-holds c = (omega arith, rw sub-zero)
 
 fits-at-requires : tie.Need-fits-at-requires Inv-loop μ-loop
-fits-at-requires c κs = (omega arith, omega arith, omega arith, omega arith)
+fits-at-requires c κs =
+    let s = c .before .before .before .before .before in
+    let p = s .pre .0 in
+    (omega arith, omega arith, omega arith, omega arith, s .pre .1 _ (omega arith))
 
 add-i : tie.Need-add-i Inv-loop μ-loop
 add-i c = search needs
@@ -35,7 +38,7 @@ loop-again c =
     let a = s .args in
     let l = c .before .before .before .loop in
     let e : getD (a .t .now) (l .i) 0 ≡ rowSort (a .nodes .now) (l .i) (sorts (a .nodes .now) (l .i)) =
-    sort-at (a .nodes .now) (a .t .now) (a .count) (l .i) (omega arith) (s .pre .table) in
+    sort-at (a .nodes .now) (a .t .now) (a .count) (l .i) (omega arith) (s .pre .0 .table) in
     (omega arith, l .inv .1 ∙ wide-step (a .nodes .now) (a .given .now) (l .i) (a .count) (omega arith) (rw (← e) (sym (c .before .fits-at .ensures) ∙ c .if1 .taken)))
 
 returns : tie.Need-returns Inv-loop μ-loop
@@ -44,7 +47,7 @@ returns c =
     let a = s .args in
     let l = c .before .before .before .loop in
     let e : getD (a .t .now) (l .i) 0 ≡ rowSort (a .nodes .now) (l .i) (sorts (a .nodes .now) (l .i)) =
-    sort-at (a .nodes .now) (a .t .now) (a .count) (l .i) (omega arith) (s .pre .table) in
+    sort-at (a .nodes .now) (a .t .now) (a .count) (l .i) (omega arith) (s .pre .0 .table) in
     sym (l .inv .1 ∙ wide-here (a .nodes .now) (a .given .now) (l .i) (a .count) (omega arith) (rw (← e) (sym (c .before .fits-at .ensures) ∙ c .if1 .left)))
 
 returns-2 : tie.Need-returns-2 Inv-loop μ-loop

@@ -5,7 +5,7 @@ use Rattle.sorts.specs.Lists.{field, rowSort}
 use Rattle.needs.specs.Needed.{arity}
 use Rattle.evaluator.specs.Value.{computed}
 use Rattle.evaluator.specs.Lists.{rowValue}
-use Rattle.evaluator.proofs.Node.{plain, given-else, first, second, third, value-of, sort-of, and-ready, or-ready, not-ready, ite-ready, concat-ready, equal-ready, less-ready, one-ready, two-ready, as-value, value-one, value-two}
+use Rattle.evaluator.proofs.Node.{plain, given-else, first, second, third, names, value-of, sort-of, and-ready, or-ready, not-ready, ite-ready, concat-ready, equal-ready, less-ready, one-ready, two-ready, as-value, value-one, value-two}
 use borrow.Author.Needs.{needs}
 use Rattle.evaluator.proofs.node_value.Statement.{statement}
 use Rattle.evaluator.proofs.node_value.Tie as tie
@@ -84,157 +84,77 @@ from-one-requires-2 c κs =
     let k = c .match .keys9 in
     one-ready (a .nodes .now) (a .given .now) (a .t .now) (a .column .now) (a .i) (s .pre) 14 k 0 refl (plain 14 0 0 _ _ refl)
 
-add-wide : tie.Need-add-wide
-add-wide c = search needs
+add-sort-at : tie.Need-add-sort-at
+add-sort-at c = search needs
 
-mul-wide : tie.Need-mul-wide
-mul-wide c = search needs
-
-shared-slice-read-wide : tie.Need-shared-slice-read-wide
-shared-slice-read-wide c = search needs
-
-mul-wide-2 : tie.Need-mul-wide-2
+sort-at-requires : tie.Need-sort-at-requires
 unfolding arity
-mul-wide-2 c =
-    let s = c .before .before .before .before .before .before .before in
+sort-at-requires c κs =
+    let s = c .before .before .before .before .before .before in
     let a = s .args in
-    let h = second (a .nodes .now) (a .given .now) (a .t .now) (a .column .now) (a .i) (s .pre) 15 (c .before .match .keys10) refl in
-    let f = s .pre .few in
-    omega arith
-
-shared-slice-read-wide-2 : tie.Need-shared-slice-read-wide-2
-unfolding arity
-shared-slice-read-wide-2 c =
-    let s = c .before .before .before .before .before .before .before .before in
-    let a = s .args in
-    let h = second (a .nodes .now) (a .given .now) (a .t .now) (a .column .now) (a .i) (s .pre) 15 (c .before .before .match .keys10) refl in
-    let l = s .pre .long in
-    omega arith
-
-wide-requires : tie.Need-wide-requires
-wide-requires c κs = search needs
+    names (a .nodes .now) (a .given .now) (a .t .now) (a .column .now) (a .i) (s .pre) 2 (omega arith) (second (a .nodes .now) (a .given .now) (a .t .now) (a .column .now) (a .i) (s .pre) 15 (c .match .keys10) refl)
 
 from-two-requires-6 : tie.Need-from-two-requires-6
 unfolding arity
 from-two-requires-6 c κs =
-    let s = c .before .before .before .before .before .before .before .before .before in
-    let a = s .args in
-    let k = c .before .before .before .match .keys10 in
-    two-ready (a .nodes .now) (a .given .now) (a .t .now) (a .column .now) (a .i) (s .pre) 15 k 0 (c .wide .result) refl refl (concat-ready (a .nodes .now) (a .given .now) (a .t .now) (a .column .now) (a .i) (s .pre) (c .wide .result) k (c .wide .ensures ∙ sort-of (a .nodes .now) (a .given .now) (a .t .now) (a .column .now) (a .i) (s .pre) (field (a .nodes .now) (a .i) 2) (second (a .nodes .now) (a .given .now) (a .t .now) (a .column .now) (a .i) (s .pre) 15 k refl)))
-
-add-wide-2 : tie.Need-add-wide-2
-add-wide-2 c = search needs
-
-mul-wide-3 : tie.Need-mul-wide-3
-mul-wide-3 c = search needs
-
-shared-slice-read-wide-3 : tie.Need-shared-slice-read-wide-3
-shared-slice-read-wide-3 c = search needs
-
-mul-wide-4 : tie.Need-mul-wide-4
-unfolding arity
-mul-wide-4 c =
     let s = c .before .before .before .before .before .before .before in
     let a = s .args in
-    let h = first (a .nodes .now) (a .given .now) (a .t .now) (a .column .now) (a .i) (s .pre) 20 (c .before .match .keys11) refl in
-    let f = s .pre .few in
-    omega arith
+    let k = c .before .match .keys10 in
+    two-ready (a .nodes .now) (a .given .now) (a .t .now) (a .column .now) (a .i) (s .pre) 15 k 0 (c .sort-at .result) refl refl (concat-ready (a .nodes .now) (a .given .now) (a .t .now) (a .column .now) (a .i) (s .pre) (c .sort-at .result) k (c .sort-at .ensures ∙ sort-of (a .nodes .now) (a .given .now) (a .t .now) (a .column .now) (a .i) (s .pre) (field (a .nodes .now) (a .i) 2) (second (a .nodes .now) (a .given .now) (a .t .now) (a .column .now) (a .i) (s .pre) 15 k refl)))
 
-shared-slice-read-wide-4 : tie.Need-shared-slice-read-wide-4
+add-sort-at-2 : tie.Need-add-sort-at-2
+add-sort-at-2 c = search needs
+
+sort-at-requires-2 : tie.Need-sort-at-requires-2
 unfolding arity
-shared-slice-read-wide-4 c =
-    let s = c .before .before .before .before .before .before .before .before in
+sort-at-requires-2 c κs =
+    let s = c .before .before .before .before .before .before in
     let a = s .args in
-    let h = first (a .nodes .now) (a .given .now) (a .t .now) (a .column .now) (a .i) (s .pre) 20 (c .before .before .match .keys11) refl in
-    let l = s .pre .long in
-    omega arith
-
-wide-requires-2 : tie.Need-wide-requires-2
-wide-requires-2 c κs = search needs
+    names (a .nodes .now) (a .given .now) (a .t .now) (a .column .now) (a .i) (s .pre) 1 (omega arith) (first (a .nodes .now) (a .given .now) (a .t .now) (a .column .now) (a .i) (s .pre) 20 (c .match .keys11) refl)
 
 from-two-requires-7 : tie.Need-from-two-requires-7
 unfolding arity
 from-two-requires-7 c κs =
-    let s = c .before .before .before .before .before .before .before .before .before in
-    let a = s .args in
-    let k = c .before .before .before .match .keys11 in
-    two-ready (a .nodes .now) (a .given .now) (a .t .now) (a .column .now) (a .i) (s .pre) 20 k (c .wide2 .result) 0 refl refl (equal-ready (a .nodes .now) (a .given .now) (a .t .now) (a .column .now) (a .i) (s .pre) (c .wide2 .result) k (c .wide2 .ensures ∙ sort-of (a .nodes .now) (a .given .now) (a .t .now) (a .column .now) (a .i) (s .pre) (field (a .nodes .now) (a .i) 1) (first (a .nodes .now) (a .given .now) (a .t .now) (a .column .now) (a .i) (s .pre) 20 k refl)))
-
-add-wide-3 : tie.Need-add-wide-3
-add-wide-3 c = search needs
-
-mul-wide-5 : tie.Need-mul-wide-5
-mul-wide-5 c = search needs
-
-shared-slice-read-wide-5 : tie.Need-shared-slice-read-wide-5
-shared-slice-read-wide-5 c = search needs
-
-mul-wide-6 : tie.Need-mul-wide-6
-unfolding arity
-mul-wide-6 c =
     let s = c .before .before .before .before .before .before .before in
     let a = s .args in
-    let h = first (a .nodes .now) (a .given .now) (a .t .now) (a .column .now) (a .i) (s .pre) 21 (c .before .match .keys12) refl in
-    let f = s .pre .few in
-    omega arith
+    let k = c .before .match .keys11 in
+    two-ready (a .nodes .now) (a .given .now) (a .t .now) (a .column .now) (a .i) (s .pre) 20 k (c .sort-at2 .result) 0 refl refl (equal-ready (a .nodes .now) (a .given .now) (a .t .now) (a .column .now) (a .i) (s .pre) (c .sort-at2 .result) k (c .sort-at2 .ensures ∙ sort-of (a .nodes .now) (a .given .now) (a .t .now) (a .column .now) (a .i) (s .pre) (field (a .nodes .now) (a .i) 1) (first (a .nodes .now) (a .given .now) (a .t .now) (a .column .now) (a .i) (s .pre) 20 k refl)))
 
-shared-slice-read-wide-6 : tie.Need-shared-slice-read-wide-6
+add-sort-at-3 : tie.Need-add-sort-at-3
+add-sort-at-3 c = search needs
+
+sort-at-requires-3 : tie.Need-sort-at-requires-3
 unfolding arity
-shared-slice-read-wide-6 c =
-    let s = c .before .before .before .before .before .before .before .before in
+sort-at-requires-3 c κs =
+    let s = c .before .before .before .before .before .before in
     let a = s .args in
-    let h = first (a .nodes .now) (a .given .now) (a .t .now) (a .column .now) (a .i) (s .pre) 21 (c .before .before .match .keys12) refl in
-    let l = s .pre .long in
-    omega arith
-
-wide-requires-3 : tie.Need-wide-requires-3
-wide-requires-3 c κs = search needs
+    names (a .nodes .now) (a .given .now) (a .t .now) (a .column .now) (a .i) (s .pre) 1 (omega arith) (first (a .nodes .now) (a .given .now) (a .t .now) (a .column .now) (a .i) (s .pre) 21 (c .match .keys12) refl)
 
 from-two-requires-8 : tie.Need-from-two-requires-8
 unfolding arity
 from-two-requires-8 c κs =
-    let s = c .before .before .before .before .before .before .before .before .before in
-    let a = s .args in
-    let k = c .before .before .before .match .keys12 in
-    two-ready (a .nodes .now) (a .given .now) (a .t .now) (a .column .now) (a .i) (s .pre) 21 k (c .wide3 .result) 0 refl refl (less-ready (a .nodes .now) (a .given .now) (a .t .now) (a .column .now) (a .i) (s .pre) (c .wide3 .result) k (c .wide3 .ensures ∙ sort-of (a .nodes .now) (a .given .now) (a .t .now) (a .column .now) (a .i) (s .pre) (field (a .nodes .now) (a .i) 1) (first (a .nodes .now) (a .given .now) (a .t .now) (a .column .now) (a .i) (s .pre) 21 k refl)))
-
-add-wide-4 : tie.Need-add-wide-4
-add-wide-4 c = search needs
-
-mul-wide-7 : tie.Need-mul-wide-7
-mul-wide-7 c = search needs
-
-shared-slice-read-wide-7 : tie.Need-shared-slice-read-wide-7
-shared-slice-read-wide-7 c = search needs
-
-mul-wide-8 : tie.Need-mul-wide-8
-unfolding arity
-mul-wide-8 c =
     let s = c .before .before .before .before .before .before .before in
     let a = s .args in
-    let h = first (a .nodes .now) (a .given .now) (a .t .now) (a .column .now) (a .i) (s .pre) 22 (c .before .match .keys13) refl in
-    let f = s .pre .few in
-    omega arith
+    let k = c .before .match .keys12 in
+    two-ready (a .nodes .now) (a .given .now) (a .t .now) (a .column .now) (a .i) (s .pre) 21 k (c .sort-at3 .result) 0 refl refl (less-ready (a .nodes .now) (a .given .now) (a .t .now) (a .column .now) (a .i) (s .pre) (c .sort-at3 .result) k (c .sort-at3 .ensures ∙ sort-of (a .nodes .now) (a .given .now) (a .t .now) (a .column .now) (a .i) (s .pre) (field (a .nodes .now) (a .i) 1) (first (a .nodes .now) (a .given .now) (a .t .now) (a .column .now) (a .i) (s .pre) 21 k refl)))
 
-shared-slice-read-wide-8 : tie.Need-shared-slice-read-wide-8
+add-sort-at-4 : tie.Need-add-sort-at-4
+add-sort-at-4 c = search needs
+
+sort-at-requires-4 : tie.Need-sort-at-requires-4
 unfolding arity
-shared-slice-read-wide-8 c =
-    let s = c .before .before .before .before .before .before .before .before in
+sort-at-requires-4 c κs =
+    let s = c .before .before .before .before .before .before in
     let a = s .args in
-    let h = first (a .nodes .now) (a .given .now) (a .t .now) (a .column .now) (a .i) (s .pre) 22 (c .before .before .match .keys13) refl in
-    let l = s .pre .long in
-    omega arith
-
-wide-requires-4 : tie.Need-wide-requires-4
-wide-requires-4 c κs = search needs
+    names (a .nodes .now) (a .given .now) (a .t .now) (a .column .now) (a .i) (s .pre) 1 (omega arith) (first (a .nodes .now) (a .given .now) (a .t .now) (a .column .now) (a .i) (s .pre) 22 (c .match .keys13) refl)
 
 from-one-requires-3 : tie.Need-from-one-requires-3
 unfolding arity
 from-one-requires-3 c κs =
-    let s = c .before .before .before .before .before .before .before .before .before in
+    let s = c .before .before .before .before .before .before .before in
     let a = s .args in
-    let k = c .before .before .before .match .keys13 in
-    one-ready (a .nodes .now) (a .given .now) (a .t .now) (a .column .now) (a .i) (s .pre) 22 k (c .wide4 .result) refl (plain 22 (c .wide4 .result) 0 _ _ refl)
+    let k = c .before .match .keys13 in
+    one-ready (a .nodes .now) (a .given .now) (a .t .now) (a .column .now) (a .i) (s .pre) 22 k (c .sort-at4 .result) refl (plain 22 (c .sort-at4 .result) 0 _ _ refl)
 
 from-one-requires-4 : tie.Need-from-one-requires-4
 unfolding arity
@@ -252,14 +172,14 @@ from-one-requires-5 c κs =
     let k = c .match .keys15 in
     one-ready (a .nodes .now) (a .given .now) (a .t .now) (a .column .now) (a .i) (s .pre) 26 k 0 refl (plain 26 0 0 _ _ refl)
 
-mul-wide-9 : tie.Need-mul-wide-9
-mul-wide-9 c = search needs
+mul-wide : tie.Need-mul-wide
+mul-wide c = search needs
 
-shared-slice-read-wide-9 : tie.Need-shared-slice-read-wide-9
-shared-slice-read-wide-9 c = search needs
+shared-slice-read-wide : tie.Need-shared-slice-read-wide
+shared-slice-read-wide c = search needs
 
-wide-requires-5 : tie.Need-wide-requires-5
-wide-requires-5 c κs = search needs
+wide-requires : tie.Need-wide-requires
+wide-requires c κs = search needs
 
 pair-at-requires : tie.Need-pair-at-requires
 pair-at-requires c κs = search needs
@@ -335,38 +255,38 @@ returns-9 c =
 returns-10 : tie.Need-returns-10
 unfolding computed arity
 returns-10 c =
-    let s = c .before .before .before .before .before .before .before .before .before .before in
+    let s = c .before .before .before .before .before .before .before .before in
     let a = s .args in
-    let k = c .before .before .before .before .match .keys10 in
-    let e = (c .before .wide .ensures ∙ sort-of (a .nodes .now) (a .given .now) (a .t .now) (a .column .now) (a .i) (s .pre) (field (a .nodes .now) (a .i) 2) (second (a .nodes .now) (a .given .now) (a .t .now) (a .column .now) (a .i) (s .pre) 15 k refl)) in
-    value-two (a .nodes .now) (a .given .now) (a .t .now) (a .column .now) (a .i) (s .pre) 15 k (val (c .from-two6 .result)) refl 0 (c .before .wide .result) refl refl (c .from-two6 .ensures) (rw e)
+    let k = c .before .before .match .keys10 in
+    let e = (c .before .sort-at .ensures ∙ sort-of (a .nodes .now) (a .given .now) (a .t .now) (a .column .now) (a .i) (s .pre) (field (a .nodes .now) (a .i) 2) (second (a .nodes .now) (a .given .now) (a .t .now) (a .column .now) (a .i) (s .pre) 15 k refl)) in
+    value-two (a .nodes .now) (a .given .now) (a .t .now) (a .column .now) (a .i) (s .pre) 15 k (val (c .from-two6 .result)) refl 0 (c .before .sort-at .result) refl refl (c .from-two6 .ensures) (rw e)
 
 returns-11 : tie.Need-returns-11
 unfolding computed arity
 returns-11 c =
-    let s = c .before .before .before .before .before .before .before .before .before .before in
+    let s = c .before .before .before .before .before .before .before .before in
     let a = s .args in
-    let k = c .before .before .before .before .match .keys11 in
-    let e = (c .before .wide2 .ensures ∙ sort-of (a .nodes .now) (a .given .now) (a .t .now) (a .column .now) (a .i) (s .pre) (field (a .nodes .now) (a .i) 1) (first (a .nodes .now) (a .given .now) (a .t .now) (a .column .now) (a .i) (s .pre) 20 k refl)) in
-    value-two (a .nodes .now) (a .given .now) (a .t .now) (a .column .now) (a .i) (s .pre) 20 k (val (c .from-two7 .result)) refl (c .before .wide2 .result) 0 refl refl (c .from-two7 .ensures) (rw e)
+    let k = c .before .before .match .keys11 in
+    let e = (c .before .sort-at2 .ensures ∙ sort-of (a .nodes .now) (a .given .now) (a .t .now) (a .column .now) (a .i) (s .pre) (field (a .nodes .now) (a .i) 1) (first (a .nodes .now) (a .given .now) (a .t .now) (a .column .now) (a .i) (s .pre) 20 k refl)) in
+    value-two (a .nodes .now) (a .given .now) (a .t .now) (a .column .now) (a .i) (s .pre) 20 k (val (c .from-two7 .result)) refl (c .before .sort-at2 .result) 0 refl refl (c .from-two7 .ensures) (rw e)
 
 returns-12 : tie.Need-returns-12
 unfolding computed arity
 returns-12 c =
-    let s = c .before .before .before .before .before .before .before .before .before .before in
+    let s = c .before .before .before .before .before .before .before .before in
     let a = s .args in
-    let k = c .before .before .before .before .match .keys12 in
-    let e = (c .before .wide3 .ensures ∙ sort-of (a .nodes .now) (a .given .now) (a .t .now) (a .column .now) (a .i) (s .pre) (field (a .nodes .now) (a .i) 1) (first (a .nodes .now) (a .given .now) (a .t .now) (a .column .now) (a .i) (s .pre) 21 k refl)) in
-    value-two (a .nodes .now) (a .given .now) (a .t .now) (a .column .now) (a .i) (s .pre) 21 k (val (c .from-two8 .result)) refl (c .before .wide3 .result) 0 refl refl (c .from-two8 .ensures) (rw e)
+    let k = c .before .before .match .keys12 in
+    let e = (c .before .sort-at3 .ensures ∙ sort-of (a .nodes .now) (a .given .now) (a .t .now) (a .column .now) (a .i) (s .pre) (field (a .nodes .now) (a .i) 1) (first (a .nodes .now) (a .given .now) (a .t .now) (a .column .now) (a .i) (s .pre) 21 k refl)) in
+    value-two (a .nodes .now) (a .given .now) (a .t .now) (a .column .now) (a .i) (s .pre) 21 k (val (c .from-two8 .result)) refl (c .before .sort-at3 .result) 0 refl refl (c .from-two8 .ensures) (rw e)
 
 returns-13 : tie.Need-returns-13
 unfolding computed arity
 returns-13 c =
-    let s = c .before .before .before .before .before .before .before .before .before .before in
+    let s = c .before .before .before .before .before .before .before .before in
     let a = s .args in
-    let k = c .before .before .before .before .match .keys13 in
-    let e = (c .before .wide4 .ensures ∙ sort-of (a .nodes .now) (a .given .now) (a .t .now) (a .column .now) (a .i) (s .pre) (field (a .nodes .now) (a .i) 1) (first (a .nodes .now) (a .given .now) (a .t .now) (a .column .now) (a .i) (s .pre) 22 k refl)) in
-    value-one (a .nodes .now) (a .given .now) (a .t .now) (a .column .now) (a .i) (s .pre) 22 k (val (c .from-one3 .result)) refl (c .before .wide4 .result) refl (c .from-one3 .ensures) (rw e)
+    let k = c .before .before .match .keys13 in
+    let e = (c .before .sort-at4 .ensures ∙ sort-of (a .nodes .now) (a .given .now) (a .t .now) (a .column .now) (a .i) (s .pre) (field (a .nodes .now) (a .i) 1) (first (a .nodes .now) (a .given .now) (a .t .now) (a .column .now) (a .i) (s .pre) 22 k refl)) in
+    value-one (a .nodes .now) (a .given .now) (a .t .now) (a .column .now) (a .i) (s .pre) 22 k (val (c .from-one3 .result)) refl (c .before .sort-at4 .result) refl (c .from-one3 .ensures) (rw e)
 
 returns-14 : tie.Need-returns-14
 unfolding computed arity
@@ -386,7 +306,7 @@ returns-16 : tie.Need-returns-16
 unfolding rowValue rowSort
 returns-16 c =
     let r = c .before .before .before .before .before .before .before .before .before .before .pre in
-    rw (given-else _ _ _ _ _ _ _ (c .before .before .before .before .match .rest .0 .0 .0 .0 .0 .0 .0 .0 .0 .0 .0 .0 .0 .0 .1) (c .before .before .before .before .match .rest .0 .0 .0 .0 .0 .0 .0 .0 .0 .0 .0 .0 .0 .1) (c .before .before .before .before .match .rest .0 .0 .0 .0 .0 .0 .0 .0 .0 .0 .0 .0 .1) (c .before .before .before .before .match .rest .0 .0 .0 .0 .0 .0 .0 .0 .0 .0 .0 .1) (c .before .before .before .before .match .rest .0 .0 .0 .0 .0 .0 .0 .0 .0 .0 .1) (c .before .before .before .before .match .rest .0 .0 .0 .0 .0 .0 .0 .0 .0 .1) (c .before .before .before .before .match .rest .0 .0 .0 .0 .0 .0 .0 .0 .1) (c .before .before .before .before .match .rest .0 .0 .0 .0 .0 .0 .0 .1) (c .before .before .before .before .match .rest .0 .0 .0 .0 .0 .0 .1) (c .before .before .before .before .match .rest .0 .0 .0 .0 .0 .1) (c .before .before .before .before .match .rest .0 .0 .0 .0 .1) (c .before .before .before .before .match .rest .0 .0 .0 .1) (c .before .before .before .before .match .rest .0 .0 .1) (c .before .before .before .before .match .rest .0 .1) (c .before .before .before .before .match .rest .1) (r .sorted), c .hold .ensures, c .before .before .wide5 .ensures ∙ r .own, c .before .pair-at .ensures)
+    rw (given-else _ _ _ _ _ _ _ (c .before .before .before .before .match .rest .0 .0 .0 .0 .0 .0 .0 .0 .0 .0 .0 .0 .0 .0 .1) (c .before .before .before .before .match .rest .0 .0 .0 .0 .0 .0 .0 .0 .0 .0 .0 .0 .0 .1) (c .before .before .before .before .match .rest .0 .0 .0 .0 .0 .0 .0 .0 .0 .0 .0 .0 .1) (c .before .before .before .before .match .rest .0 .0 .0 .0 .0 .0 .0 .0 .0 .0 .0 .1) (c .before .before .before .before .match .rest .0 .0 .0 .0 .0 .0 .0 .0 .0 .0 .1) (c .before .before .before .before .match .rest .0 .0 .0 .0 .0 .0 .0 .0 .0 .1) (c .before .before .before .before .match .rest .0 .0 .0 .0 .0 .0 .0 .0 .1) (c .before .before .before .before .match .rest .0 .0 .0 .0 .0 .0 .0 .1) (c .before .before .before .before .match .rest .0 .0 .0 .0 .0 .0 .1) (c .before .before .before .before .match .rest .0 .0 .0 .0 .0 .1) (c .before .before .before .before .match .rest .0 .0 .0 .0 .1) (c .before .before .before .before .match .rest .0 .0 .0 .1) (c .before .before .before .before .match .rest .0 .0 .1) (c .before .before .before .before .match .rest .0 .1) (c .before .before .before .before .match .rest .1) (r .sorted), c .hold .ensures, c .before .before .wide .ensures ∙ r .own, c .before .pair-at .ensures)
 
 pub node-value-spec : {M : Type 1} → statement M
 node-value-spec =
@@ -404,39 +324,23 @@ node-value-spec =
     from-one-requires
     from-three-requires
     from-one-requires-2
-    add-wide
-    mul-wide
-    shared-slice-read-wide
-    mul-wide-2
-    shared-slice-read-wide-2
-    wide-requires
+    add-sort-at
+    sort-at-requires
     from-two-requires-6
-    add-wide-2
-    mul-wide-3
-    shared-slice-read-wide-3
-    mul-wide-4
-    shared-slice-read-wide-4
-    wide-requires-2
+    add-sort-at-2
+    sort-at-requires-2
     from-two-requires-7
-    add-wide-3
-    mul-wide-5
-    shared-slice-read-wide-5
-    mul-wide-6
-    shared-slice-read-wide-6
-    wide-requires-3
+    add-sort-at-3
+    sort-at-requires-3
     from-two-requires-8
-    add-wide-4
-    mul-wide-7
-    shared-slice-read-wide-7
-    mul-wide-8
-    shared-slice-read-wide-8
-    wide-requires-4
+    add-sort-at-4
+    sort-at-requires-4
     from-one-requires-3
     from-one-requires-4
     from-one-requires-5
-    mul-wide-9
-    shared-slice-read-wide-9
-    wide-requires-5
+    mul-wide
+    shared-slice-read-wide
+    wide-requires
     pair-at-requires
     hold-requires
     returns
