@@ -24,13 +24,7 @@ pub fn is_bits(s: u64) -> bool
 pub fn is_float(s: u64) -> bool
     ensures { λ r. ⌜ r ≡ isFloat s ⌝ }
 {
-    if s == 3904 {
-        return true;
-    }
-    if s == 2869 {
-        return true;
-    }
-    s == 2072
+    (s == 2072) | (s == 2869) | (s == 3904)
 }
 
 pub fn is_stored(s: u64) -> bool
@@ -62,76 +56,6 @@ fn only(ok: bool, s: u64) -> u64
     ensures { λ r. ⌜ r ≡ when ok s ⌝ }
 {
     if ok { s } else { 0 }
-}
-
-// s where both are bits of one width and c is 0.
-fn bits_alike(sa: u64, sb: u64, c: u64, s: u64) -> u64
-    ensures { λ r. ⌜ r ≡ when ((isBits sa && eqb sa sb) && eqb c 0) s ⌝ }
-{
-    if c == 0 {
-        if sa == sb {
-            if is_bits(sa) {
-                return s;
-            }
-        }
-    }
-    0
-}
-
-// Width 1 where both have it and c is 0.
-fn two_bools(sa: u64, sb: u64, c: u64) -> u64
-    ensures { λ r. ⌜ r ≡ when ((eqb sa 1 && eqb sb 1) && eqb c 0) 1 ⌝ }
-{
-    if c == 0 {
-        if sa == 1 {
-            if sb == 1 {
-                return 1;
-            }
-        }
-    }
-    0
-}
-
-// s where both are floats of one format and ok holds.
-fn floats_alike(sa: u64, sb: u64, ok: bool, s: u64) -> u64
-    ensures { λ r. ⌜ r ≡ when ((isFloat sa && eqb sa sb) && ok) s ⌝ }
-{
-    if ok {
-        if sa == sb {
-            if is_float(sa) {
-                return s;
-            }
-        }
-    }
-    0
-}
-
-// s where sa is a float and x and y hold.
-fn float_with(sa: u64, x: bool, y: bool, s: u64) -> u64
-    ensures { λ r. ⌜ r ≡ when ((isFloat sa && x) && y) s ⌝ }
-{
-    if x {
-        if y {
-            if is_float(sa) {
-                return s;
-            }
-        }
-    }
-    0
-}
-
-// The format c where sa is the width of its patterns and b is 0.
-fn to_float(sa: u64, b: u64, c: u64) -> u64
-    ensures { λ r. ⌜ r ≡ when ((isFloat c && eqb sa (patternWidth c)) && eqb b 0) c ⌝ }
-{
-    if b == 0 {
-        if is_float(c) {
-            if sa == pattern_width(c) {
-                return c;
-            }
-        }
-    }
-    0
 }
 
 fn extract_sort(s: u64, hi: u64, lo: u64) -> u64
@@ -168,26 +92,26 @@ pub fn sort_of(k: u64, a: u64, b: u64, c: u64, xa: u16, xb: u16, xc: u16) -> u64
         4 => only((a == 0) & (b == 0) & (c == 0), 16),
         5 => only((a <= 2) & (b == 0) & (c == 0), 1),
         6 => only(is_bits(c) & words::fits(Wide { lo: a, hi: b }, c), c),
-        7 => bits_alike(sa, sb, c, sb),
-        8 => bits_alike(sa, sb, c, sb),
-        9 => bits_alike(sa, sb, c, 1),
-        10 => two_bools(sa, sb, c),
-        11 => two_bools(sa, sb, c),
+        7 => only(is_bits(sa) & (sa == sb) & (c == 0), sb),
+        8 => only(is_bits(sa) & (sa == sb) & (c == 0), sb),
+        9 => only(is_bits(sa) & (sa == sb) & (c == 0), 1),
+        10 => only((sa == 1) & (sb == 1) & (c == 0), 1),
+        11 => only((sa == 1) & (sb == 1) & (c == 0), 1),
         12 => only((sa == 1) & (b == 0) & (c == 0), 1),
         13 => only((sa == 1) & is_bits(sb) & (sb == sc), sc),
         14 => extract_sort(sa, b, c),
         15 => concat_sort(xa, xb, c),
-        16 => floats_alike(sa, sb, c <= 1, sb),
-        17 => floats_alike(sa, sb, c <= 1, sb),
-        18 => floats_alike(sa, sb, c <= 1, sb),
-        19 => floats_alike(sa, sb, c <= 1, sb),
-        20 => floats_alike(sa, sb, c == 0, 1),
-        21 => floats_alike(sa, sb, c == 0, 1),
-        22 => float_with(sa, b == 0, c == 0, 1),
-        23 => float_with(sa, b <= 1, c == 0, sa),
-        24 => float_with(sa, b <= 1, c == 0, sa),
-        25 => to_float(sa, b, c),
-        26 => float_with(sa, b == 0, c == 0, pattern_width(sa)),
+        16 => only(is_float(sa) & (sa == sb) & (c <= 1), sb),
+        17 => only(is_float(sa) & (sa == sb) & (c <= 1), sb),
+        18 => only(is_float(sa) & (sa == sb) & (c <= 1), sb),
+        19 => only(is_float(sa) & (sa == sb) & (c <= 1), sb),
+        20 => only(is_float(sa) & (sa == sb) & (c == 0), 1),
+        21 => only(is_float(sa) & (sa == sb) & (c == 0), 1),
+        22 => only(is_float(sa) & (b == 0) & (c == 0), 1),
+        23 => only(is_float(sa) & (b <= 1) & (c == 0), sa),
+        24 => only(is_float(sa) & (b <= 1) & (c == 0), sa),
+        25 => only(is_float(c) & (sa == pattern_width(c)) & (b == 0), c),
+        26 => only(is_float(sa) & (b == 0) & (c == 0), pattern_width(sa)),
         27 => only(is_float(sa) & (b <= 1) & is_word(c), c),
         28 => only(is_word(sa) & (b <= 1) & (c == 3904), c),
         29 => only(is_float(sa) & (b <= 1) & is_float(c), c),
