@@ -4,16 +4,23 @@ use Rattle.std.proofs.Common.{sym, ap, ◌∙◌, arith, leb-true, get_or-take}
 use Rattle.lists.specs.Rows.{room_of, wrote}
 use Rattle.lists.specs.Steps.{Built, gives}
 use Rattle.lists.specs.Valid.{valid_of}
-use Rattle.lists.specs.declared.State.{State}
 use Rattle.lists.proofs.Adds.{Adds, nodes-kept, statements-kept}
-use Rattle.lifter.specs.Lift.{fitting_of, lift_of}
+use Rattle.forms.specs.Classify.{classify_of}
+use Rattle.details.specs.Why.{why_of}
+use Rattle.forms.specs.declared.Instruction.{Instruction}
+use Rattle.memory.specs.Site.{site_of}
+use Rattle.lifter.specs.Lift.{lowered_of, fitting_of, lift_of}
 use Rattle.lifter.proofs.Adds.{lowered-adds}
-use Rattle.agreement.specs.Runs.{Asked, Held, lowered_at, lift_at, stepped, called}
+use Rattle.agreement.specs.Runs.{Held, stepped, called}
 use Rattle.agreement.specs.Laid.{Lies, lies}
 use Rattle.agreement.specs.Stands.{numbered-order, after-exact}
 use Rattle.agreement.specs.Fine.Valid.{is-valid}
 
--- The rows of a step are counted, stand behind those that were there, and leave them
+-- What an instruction comes to from here, over lists of any length
+abbrev pub lowered_at : Held → Instruction → Built
+lowered_at h i = lowered_of h.st (classify_of i) (why_of i) (site_of i)
+
+-- Its rows are counted, stand behind those that were there, and leave them
 pub record Added (h : Held) (b : Built) : Type 0 where
   pub counts : b.st.nodes ≡ h.st.nodes + length b.ns
   pub counts' : b.st.statements ≡ h.st.statements + length b.ss
@@ -34,10 +41,6 @@ room-words words n h = omega arith
 
 kept_word : (n : ℕ) (l m : List ℕ) (j : ℕ) → j < n → take n l ≡ take n m → get_or l j 0 ≡ get_or m j 0
 kept_word n l m j h e = sym (get_or-take n l j 0 h) ∙ ap (λ (w : List ℕ). get_or w j 0) e ∙ get_or-take n m j 0 h
-
--- No call adds more than 46 nodes and 5 statements
-pub adds-at : (s : State) (i : Asked) → Adds s 46 5 (lowered_at s i)
-adds-at s i = lowered-adds s _ _ _
 
 module _ (h : Held) (b : Built) where
   written : Adds h.st 46 5 b → valid_of h.st (room_of (length h.nodes)) (room_of (length h.statements)) ≡ true
@@ -65,26 +68,26 @@ module _ (h : Held) (b : Built) where
       }
 
 -- EVERY LIFT: what holds of a refusal with 5, 6 and 7, and of the instruction's step where its rows stand in the words, holds of the lift
-pub by-lift : (P : Built → Type 0) (h : Held) (i : Asked) → P (gives h.st 5) → P (gives h.st 6) → P (gives h.st 7)
-    → (valid_of h.st (room_of (length h.nodes)) (room_of (length h.statements)) ≡ true → Added h (lowered_at h.st i) → P (lowered_at h.st i))
-    → P (lift_at h i)
+pub by-lift : (P : Built → Type 0) (h : Held) (i : Instruction) → P (gives h.st 5) → P (gives h.st 6) → P (gives h.st 7)
+    → (valid_of h.st (room_of (length h.nodes)) (room_of (length h.statements)) ≡ true → Added h (lowered_at h i) → P (lowered_at h i))
+    → P (lift_of h.st i h.nodes h.statements)
 unfolding lift_of fitting_of
 by-lift P h i p₅ p₆ p₇ f =
     way (valid_of h.st (room_of (length h.nodes)) (room_of (length h.statements)))
     (leb b.st.nodes (room_of (length h.nodes))) (leb b.st.statements (room_of (length h.statements))) refl refl refl
   where
     b : Built
-    b = lowered_at h.st i
+    b = lowered_at h i
 
     way : (x y z : Bool) → valid_of h.st (room_of (length h.nodes)) (room_of (length h.statements)) ≡ x → leb b.st.nodes (room_of (length h.nodes)) ≡ y
         → leb b.st.statements (room_of (length h.statements)) ≡ z → P (cond x (cond y (cond z b (gives h.st 7)) (gives h.st 6)) (gives h.st 5))
-    way true true true e p q = f e (written h b (adds-at h.st i) e (leb-true _ _ p) (leb-true _ _ q))
+    way true true true e p q = f e (written h b (lowered-adds h.st (classify_of i) (why_of i) (site_of i)) e (leb-true _ _ p) (leb-true _ _ q))
     way true true false e p q = p₇
     way true false z e p q = p₆
     way false y z e p q = p₅
 
 -- .. and so of what a call leaves
-pub by_call : (P : Held → Type 0) (h : Held) (i : Asked) → ((r : ℕ) → P (stepped h (gives h.st r)))
-    → (Added h (lowered_at h.st i) → P (stepped h (lowered_at h.st i))) → P (called h i)
+pub by_call : (P : Held → Type 0) (h : Held) (i : Instruction) → ((r : ℕ) → P (stepped h (gives h.st r)))
+    → (Added h (lowered_at h i) → P (stepped h (lowered_at h i))) → P (called h i)
 unfolding called
 by_call P h i f g = by-lift (λ (b : Built). P (stepped h b)) h i (f 5) (f 6) (f 7) (λ _ w. g w)

@@ -1,17 +1,16 @@
 -- THEOREM 4: THE EXAMPLES FROM THE BENCH HOLD.
--- P1 to P12 of the manual, section 10, are one table, and `bench` is the one statement that all of it holds, in every dialect. A row is as a listing has it: number, kind, a, b, c
-use Rattle.std.specs.Prelude.{◌≡◌, true, false, List, [], ◌∷◌, map, ℕ, zero, suc, ◌+◌, ◌*◌, ◌^◌, ◌<◌, length, replicate, get_or, take, ltb}
+-- P1 to P12 of the manual, section 10, are one table, and `bench` is the one statement that all of it holds. A row is as a listing has it: number, kind, a, b, c
+use Rattle.std.specs.Prelude.{◌≡◌, true, false, List, [], ◌∷◌, ℕ, ◌+◌, ◌*◌, ◌^◌, ◌<◌, length, replicate, get_or, take, ltb}
 use Rattle.std.proofs.Math.Path.{refl}
-use Rattle.std.proofs.Common.{arith, lt-ltb, ltb-true, leb-true}
+use Rattle.std.proofs.Common.{arith, lt-ltb, ltb-true}
 use Rattle.texts.specs.Bytes as texts
 use Rattle.texts.specs.Letters.{cut, trim_of}
 use Rattle.texts.specs.Places.{place_of}
 use Rattle.forms.specs.declared.Instruction.{Instruction}
-use Rattle.forms.specs.declared.Settings.{Settings}
 use Rattle.forms.specs.Operands.{ranged_is, spelled_is, slot_of, width_of}
 use Rattle.forms.specs.Names.{names, family_of}
 use Rattle.forms.specs.Families.{form_of}
-use Rattle.forms.specs.Classify.{dialect_is, classify_of}
+use Rattle.forms.specs.Classify.{classify_of}
 use Rattle.details.specs.Takes as takes
 use Rattle.details.specs.Why.{kind_off, address_off, width_off, unknown_name, wrong_count, wrong_kind, unknown_address, wrong_width, why_of}
 use Rattle.lists.specs.Rows.{Row, row, stored, wrote, up, room_of}
@@ -42,18 +41,15 @@ use Rattle.evaluator.specs.Value.{computed}
 use Rattle.agreement.specs.Spelled.{alone, at, at2, bits}
 use Rattle.agreement.specs.Laid.{Reads}
 use Rattle.agreement.specs.Values.{sort_at, value_at, value-at, earlier, unread, has}
-use Rattle.agreement.specs.Runs.{asks, Held, lift_at, stepped, called, ran, begun}
+use Rattle.agreement.specs.Runs.{Held, stepped, called, ran, begun}
 
--- What a lift adds in dialect d, after others from the fresh state, over lists with room for 64 nodes and 16 statements
-abbrev in-dialect : ℕ → Settings
-in-dialect d = record { dialect = d }
+-- What a lift adds, after others from the fresh state, over lists with room for 64 nodes and 16 statements
+unfoldable pub after : List Instruction → Held
+after is = ran (begun (replicate 256 0) (replicate 64 0)) is
 
-unfoldable pub after : ℕ → List Instruction → Held
-after d is = ran (begun (replicate 256 0) (replicate 64 0)) (map (asks (in-dialect d)) is)
-
-unfoldable pub lifted : ℕ → List Instruction → Instruction → Built
+unfoldable pub lifted : List Instruction → Instruction → Built
 unfolding after ran called stepped lift_of fitting_of lowered_of valid_of all_sound sound_of room_of up stored wrote ◌▸◌ gives node_of statement_of input_counted temporary_counted fresh_of temporary_of classify_of form_of family_of names ranged_is spelled_is slot_of width_of texts.valid_of trim_of cut place_of why_of unknown_name wrong_count wrong_kind unknown_address wrong_width kind_off address_off width_off takes.table apply_x87_of decline_x87_of land_of push_const_of push_slot_of push_memory_of dropped_times dropped_if ordered_of x87_arith_of x87_compare_status_of x87_compare_flags_of variable_of read_operand_lowered_of image_read_of converted_of x87_memory_read_of source_of write_dst_of top_of x87_store_memory_of is_image arith_kind_of extended_from_memory_of narrowed_of from_slot_of extended_arith_of unordered_of x87_status_word_of stack.havoc_of stack.grown stack.bottom_of stack.lowered stack.ensure_of stack.slot_of stack.kept stack.read_of stack.write_of stack.overflows stack.push_of stack.drop_top_of stack.pop_of
-lifted d before i = lift_at (after d before) (asks (in-dialect d) i)
+lifted before i = let h = after before in lift_of h.st i h.nodes h.statements
 
 -- The figures of a lift: its answer, the state's depth, inputs and temporaries, and how many nodes and statements it adds
 pub record Figures : Type 0 where
@@ -88,24 +84,20 @@ pub data Example : Type 0 where
   -- An image that gives the free pattern
   free : List ℕ → Example
 
--- An image gives whatever free pattern it is offered
-abbrev pub GivesFree : List ℕ → Type 0
-GivesFree bytes = (p : Wide) → p.lo < 2 ^ 64 → val p < 2 ^ 79 → read_of bytes p ≡ Pattern p
-
--- A row of the table holds in dialect d
-abbrev pub Holds : ℕ → Example → Type 0
-Holds d (counts before i f) = figures (lifted d before i) ≡ f
-Holds d (nodes i rows) = (lifted d [] i).ns ≡ rows
-Holds d (statements before i rows) = (lifted d before i).ss ≡ rows
-Holds d (clear i node k) = (given : List ℕ) → extract_of (get_or (vals (wrote (replicate 256 0) (lifted d [] i).ns) given (node + 1)) node 0) k k ≡ 0
-Holds d (writes low high bytes) = image_after (replicate 10 255) (record { lo = low; hi = high }) ≡ bytes
-Holds d (free bytes) = GivesFree bytes
+-- A row of the table holds
+abbrev pub Holds : Example → Type 0
+Holds (counts before i f) = figures (lifted before i) ≡ f
+Holds (nodes i rows) = (lifted [] i).ns ≡ rows
+Holds (statements before i rows) = (lifted before i).ss ≡ rows
+Holds (clear i node k) = (given : List ℕ) → extract_of (get_or (vals (wrote (replicate 256 0) (lifted [] i).ns) given (node + 1)) node 0) k k ≡ 0
+Holds (writes low high bytes) = image_after (replicate 10 255) (record { lo = low; hi = high }) ≡ bytes
+Holds (free bytes) = (p : Wide) → p.lo < 2 ^ 64 → val p < 2 ^ 79 → read_of bytes p ≡ Pattern p
 
 -- Every row holds
 infixr 20 ◌&◌
-pub data AllHold (d : ℕ) : List Example → Type 0 where
-  end : AllHold d []
-  ◌&◌ : {e : Example} {es : List Example} → Holds d e → AllHold d es → AllHold d (e ∷ es)
+pub data AllHold : List Example → Type 0 where
+  end : AllHold []
+  ◌&◌ : {e : Example} {es : List Example} → Holds e → AllHold es → AllHold (e ∷ es)
 
 abbrev pub table : List Example
 table =
@@ -158,9 +150,9 @@ table =
 clear-9 : (busy c3 top c2 low : ℕ) → extract_of (concat_of busy (concat_of c3 (concat_of top (concat_of c2 (concat_of 0 low 9) 10) 11) 14) 15) 9 9 ≡ 0
 clear-9 busy c3 top c2 low = omega arith
 
--- The nodes of P11 in their list, which are the same in every dialect
+-- The nodes of P11 in their list
 abbrev compared : List ℕ
-compared = wrote (replicate 256 0) (lifted 0 [] (at "fcom" "st(1)")).ns
+compared = wrote (replicate 256 0) (lifted [] (at "fcom" "st(1)")).ns
 
 -- Row n of its words
 abbrev compared_at : ℕ → Row
@@ -194,17 +186,13 @@ module _ (given : List ℕ) where
       rw (value-at compared given 21 22 (omega arith), n21, c1-zero) (clear-9 (value 12) (value 10) (value 13) (value 6) (value 16))
 
 -- An image without a number gives the free pattern
-free-read : (bytes : List ℕ) → ltb (length bytes) 10 ≡ false → has_number (little_endian (take 10 bytes)) ≡ false → GivesFree bytes
+free-read : (bytes : List ℕ) → ltb (length bytes) 10 ≡ false → has_number (little_endian (take 10 bytes)) ≡ false → Holds (free bytes)
 unfolding read_of pattern_in
 free-read bytes long none p lo h = rw (long, lt-ltb (val p) (2 ^ 79) h, none, ← wide-val p lo)
 
 -- EVERY ROW OF THE TABLE HOLDS
-pub bench : (d : ℕ) → dialect_is d ≡ true → AllHold d table
+pub bench : AllHold table
 unfolding lifted figures image_after image_of bytes_of
-bench zero e =
+bench =
     refl & refl & refl & refl & free-read _ refl refl & free-read _ refl refl & refl & refl & refl & refl & refl & refl & refl & refl & refl & refl
     & refl & refl & bit-9 & refl & refl & refl & refl & refl & end
-bench (suc zero) e =
-    refl & refl & refl & refl & free-read _ refl refl & free-read _ refl refl & refl & refl & refl & refl & refl & refl & refl & refl & refl & refl
-    & refl & refl & bit-9 & refl & refl & refl & refl & refl & end
-bench (suc (suc d)) e = absurd (omega (arith, leb-true (suc (suc d)) 1 e))

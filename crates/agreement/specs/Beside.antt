@@ -1,10 +1,12 @@
 -- THEOREM 14: WHAT IS TOLD BESIDE A REFUSAL.
 -- Every exported call that is lent words to tell goes by one rule (`Tells` in export/specs/Answers). Beside an answer other than 0 these words are 0,
--- but a place that is named and beside a decline its detail, for whatever settings, bytes, records and lists the call is given; a call of lift on a record that was lifted,
+-- but a place that is named and beside a decline its detail, for whatever bytes, records and lists the call is given; a call of lift on a record that was lifted,
 -- declined or not, tells the next place and 1
 use Rattle.std.specs.Prelude.{◌≡◌, refl, Bool, true, false, cond, ◌&&◌, List, [], ◌∷◌, ℕ, eqb, leb, take, replicate}
 use Rattle.std.proofs.Common.{arith}
 use Rattle.texts.specs.Bytes.{all}
+use Rattle.forms.specs.Classify.{classify_of}
+use Rattle.forms.specs.Effects.{effect_of}
 use Rattle.forms.specs.Numbers.{number_of, fields_of, effect_number, effect_fields}
 use Rattle.forms.specs.declared.Classified.{Classified}
 use Rattle.forms.specs.declared.Classified.TheVariants as classified-as
@@ -16,8 +18,8 @@ use Rattle.records.specs.declared.Outcome.TheVariants.{Record, End, Refused}
 use Rattle.image.specs.Answers.{read_of}
 use Rattle.image.specs.declared.Found.{Found}
 use Rattle.image.specs.declared.Found.TheVariants.{Pattern, TooWide, Short}
-use Rattle.export.specs.Flat.{insn_of, settings_in, all_set, asked, at_least}
-use Rattle.export.specs.Answers.{Said, too_short, classified_by, affected_by, classified, reasoned, affected, read_into}
+use Rattle.export.specs.Flat.{insn_of, at_least}
+use Rattle.export.specs.Answers.{Said, too_short, classified, reasoned, affected, read_into}
 use Rattle.details.specs.Why.{detail_of}
 use Rattle.lifter.specs.Lift.{lift_of}
 use Rattle.export.specs.Lifts.{Lifted, small_is, state_in, done, lifted_in, lifted_of, unchanged}
@@ -50,40 +52,42 @@ zeros k h = refl
 form-zeros : (c : Classified) → Zeros 8 (record { number = number_of c; words = fields_of c })
 form-zeros (classified-as.Modelled f) h = absurd (h refl)
 form-zeros classified-as.Declined h = refl
-form-zeros (classified-as.Refused r) h = refl
+form-zeros classified-as.BadText h = refl
+form-zeros classified-as.BadOperands h = refl
 
 effect-zeros : (a : Affected) → Zeros 7 (record { number = effect_number a; words = effect_fields a })
 effect-zeros (affected-as.Modelled e) h = absurd (h refl)
 effect-zeros affected-as.Declined h = refl
-effect-zeros (affected-as.Refused r) h = refl
+effect-zeros affected-as.BadText h = refl
+effect-zeros affected-as.BadOperands h = refl
 
-pub classify-beside : (set flat : List ℕ) → Zeros 8 (classified set flat)
+pub classify-beside : (flat : List ℕ) → Zeros 8 (classified flat)
 unfolding classified
-classify-beside set flat = either (Zeros 8) (asked set flat) _ (too_short 8) (form-zeros (classified_by set flat)) (zeros 8)
+classify-beside flat = either (Zeros 8) (at_least 177 flat) _ (too_short 8) (form-zeros (classify_of (insn_of flat))) (zeros 8)
 
-pub effect-beside : (set flat : List ℕ) → Zeros 7 (affected set flat)
+pub effect-beside : (flat : List ℕ) → Zeros 7 (affected flat)
 unfolding affected
-effect-beside set flat = either (Zeros 7) (asked set flat) _ (too_short 7) (effect-zeros (affected_by set flat)) (zeros 7)
+effect-beside flat = either (Zeros 7) (at_least 177 flat) _ (too_short 7) (effect-zeros (effect_of (insn_of flat))) (zeros 7)
 
 -- WHY: the detail stands beside 1 alone
-pub why-beside : (set flat : List ℕ) → eqb (reasoned set flat).number 1 ≡ false → (reasoned set flat).words ≡ 0 ∷ []
+pub why-beside : (flat : List ℕ) → eqb (reasoned flat).number 1 ≡ false → (reasoned flat).words ≡ 0 ∷ []
 unfolding reasoned detail_of
-why-beside set flat = way (asked set flat)
+why-beside flat = way (at_least 177 flat)
   where
     said : Said
-    said = record { number = number_of (classified_by set flat); words = detail_of (number_of (classified_by set flat)) (settings_in set) (insn_of flat) ∷ [] }
+    said = record { number = number_of (classify_of (insn_of flat)); words = detail_of (number_of (classify_of (insn_of flat))) (insn_of flat) ∷ [] }
 
     way : (b : Bool) → eqb (cond b said (too_short 1)).number 1 ≡ false → (cond b said (too_short 1)).words ≡ 0 ∷ []
     way true e = rw e
     way false e = refl
 
 -- THE LIFT OF AN INSTRUCTION'S BYTES: likewise
-pub lift-beside : (set flat s n m : List ℕ) → eqb (called_of set flat s n m).lifted.answer 1 ≡ false → (called_of set flat s n m).told ≡ 0 ∷ []
+pub lift-beside : (flat s n m : List ℕ) → eqb (called_of flat s n m).lifted.answer 1 ≡ false → (called_of flat s n m).told ≡ 0 ∷ []
 unfolding called_of lifted_of lifted_in detail_of
-lift-beside set flat s n m = way (asked set flat && at_least 13 s) (all small_is (take 13 s))
+lift-beside flat s n m = way (at_least 177 flat && at_least 13 s) (all small_is (take 13 s))
   where
     given : Lifted
-    given = done (settings_in set) (insn_of flat) (lift_of (state_in s) (settings_in set) (insn_of flat) n m) s n m
+    given = done (insn_of flat) (lift_of (state_in s) (insn_of flat) n m) s n m
 
     way : (b c : Bool) → let x = cond b (cond c given (unchanged 5 s n m)) (unchanged 10 s n m) in eqb x.answer 1 ≡ false → x.detail ∷ [] ≡ 0 ∷ []
     way true true e = rw e
@@ -109,15 +113,15 @@ told-beside : (r detail next at : ℕ) → leb r 2 ≡ false → PlaceAndZeros 2
 unfolding told_of
 told-beside r detail next at e = rw e (record { place = at; told = refl })
 
-pub step-beside : (set : List ℕ) (t : Taken) (at : ℕ) (s n m : List ℕ) → let x = stepped_of set t at s n m in leb x.lifted.answer 2 ≡ false → PlaceAndZeros 2 x.told
+pub step-beside : (t : Taken) (at : ℕ) (s n m : List ℕ) → let x = stepped_of t at s n m in leb x.lifted.answer 2 ≡ false → PlaceAndZeros 2 x.told
 unfolding stepped_of step_of
-step-beside set t at s n m = way (all_set set && at_least 13 s) t.outcome
+step-beside t at s n m = way (at_least 13 s) t.outcome
   where
     short : Stepped
     short = record { lifted = Rattle.export.specs.Lifts.unchanged 10 s n m; told = 0 ∷ 0 ∷ 0 ∷ [] }
 
-    way : (b : Bool) (o : Outcome) → let x = cond b (step_of (settings_in set) o t.insn at s n m) short in leb x.lifted.answer 2 ≡ false → PlaceAndZeros 2 x.told
-    way true (Record c) e = told-beside (lifted_in (settings_in set) t.insn s n m).answer (lifted_in (settings_in set) t.insn s n m).detail c.at at e
+    way : (b : Bool) (o : Outcome) → let x = cond b (step_of o t.insn at s n m) short in leb x.lifted.answer 2 ≡ false → PlaceAndZeros 2 x.told
+    way true (Record c) e = told-beside (lifted_in t.insn s n m).answer (lifted_in t.insn s n m).detail c.at at e
     way true (End c) e = record { place = c.at; told = refl }
     way true (Refused r p) e = record { place = p; told = refl }
     way false o e = record { place = 0; told = refl }

@@ -1,5 +1,5 @@
 -- THEOREM 13: THE CALLS THAT RUST MAKES ARE A RUN.
--- Any number of calls of `x87_lift` and `x87_lift_record`, on any bytes and by any settings, each given the words that the one before it left, from a state of thirteen zero words
+-- Any number of calls of `x87_lift` and `x87_lift_record`, on any bytes, each given the words that the one before it left, from a state of thirteen zero words
 -- over any two lists, refused calls among them, come to what the run of their instructions comes to: a state that is written to words and read is that state.
 -- So the theorems on runs hold of what Rust holds in its hands: it is sound, it evaluates, it forgets at a decline.
 use Rattle.std.specs.Prelude.{◌≡◌, refl, Bool, true, false, cond, ◌&&◌, ℕ, ◌+◌, ◌*◌, ◌%◌, ◌≤◌, ◌<◌, leb, ltb, eqb, length, get_or, take, replicate}
@@ -14,15 +14,17 @@ use Rattle.lists.specs.Rows.{room_of, wrote}
 use Rattle.lists.specs.Steps.{Built}
 use Rattle.lists.specs.Stack.{fresh}
 use Rattle.lists.specs.declared.State.{State}
+use Rattle.forms.specs.declared.Instruction.{Instruction}
 use Rattle.records.specs.Format.{taken_at}
 use Rattle.records.specs.Numbers.{refusal_of}
 use Rattle.records.specs.declared.Outcome.{Outcome}
 use Rattle.records.specs.declared.Outcome.TheVariants.{Record, End, Refused}
 use Rattle.details.specs.Why.{detail_of}
-use Rattle.export.specs.Flat.{insn_of, settings_in, all_set, asked, at_least}
+use Rattle.lifter.specs.Lift.{lift_of}
+use Rattle.export.specs.Flat.{insn_of, at_least}
 use Rattle.export.specs.Lifts.{small_is, low32, state_in, state_words, Lifted, kept_if, done, lifted_in, lifted_of, unchanged}
-use Rattle.export.specs.Steps.{Stepped, called_of, stepped_of, step_of}
-use Rattle.agreement.specs.Runs.{Asked, asks, Held, lift_at, begun, answered, stepped, called, ran, ran_on}
+use Rattle.export.specs.Steps.{called_of, stepped_of, step_of}
+use Rattle.agreement.specs.Runs.{Held, begun, answered, stepped, called, ran, ran_on}
 use Rattle.agreement.specs.Refused.{refused}
 use Rattle.agreement.specs.Fine.{Placed}
 use Rattle.agreement.specs.Fine.Valid.{inside}
@@ -32,10 +34,10 @@ use Rattle.agreement.specs.Sorted.{Sound, sorted}
 pub mod Kept
 use Kept.{Narrow, tracked-narrow, state-back, words_small, words_long, zero-state, zero-small, zero-long}
 
--- A call: `x87_lift` on some bytes, or `x87_lift_record` on an input, at a place, each with some bytes lent for the settings and some words for what it tells
+-- A call: `x87_lift` on some bytes, or `x87_lift_record` on an input, at a place, each with some words lent for what it tells
 pub data Call : Type 0 where
-  lift : (set flat out : List ℕ) → Call
-  lift_record : (set input : List ℕ) (at : ℕ) (out : List ℕ) → Call
+  lift : List ℕ → List ℕ → Call
+  lift_record : List ℕ → ℕ → List ℕ → Call
 
 -- What is lent from call to call: the state's words, the nodes' and the statements'
 pub record Words : Type 0 where
@@ -45,10 +47,10 @@ pub record Words : Type 0 where
 
 -- What a call answers and leaves, as it promises
 unfoldable pub promised : Words → Call → Lifted
-promised w (lift set flat out) =
-    cond (at_least 1 out) (called_of set flat w.state w.nodes w.statements).lifted (unchanged 10 w.state w.nodes w.statements)
-promised w (lift_record set input at out) =
-    cond (at_least 3 out) (stepped_of set (taken_at input at) at w.state w.nodes w.statements).lifted (unchanged 10 w.state w.nodes w.statements)
+promised w (lift flat out) =
+    cond (at_least 1 out) (called_of flat w.state w.nodes w.statements).lifted (unchanged 10 w.state w.nodes w.statements)
+promised w (lift_record input at out) =
+    cond (at_least 3 out) (stepped_of (taken_at input at) at w.state w.nodes w.statements).lifted (unchanged 10 w.state w.nodes w.statements)
 
 unfoldable pub made : Words → Call → Words
 made w c = let x = promised w c in record { state = x.state; nodes = x.nodes; statements = x.statements }
@@ -58,18 +60,17 @@ unfoldable pub makes : Words → List Call → Words
 makes w [] = w
 makes w (c ∷ cs) = makes (made w c) cs
 
--- What a call hands to the lifter, if it hands anything over: the instruction, and the settings
-abbrev pub recorded : Outcome → Asked → List Asked
+-- The instruction that a call hands to the lifter, if it hands one over
+abbrev pub recorded : Outcome → Instruction → List Instruction
 recorded (Record c) i = i ∷ []
 recorded (End c) i = []
 recorded (Refused r p) i = []
 
-unfoldable pub handed : Call → List Asked
-handed (lift set flat out) = cond (at_least 1 out && asked set flat) (asks (settings_in set) (insn_of flat) ∷ []) []
-handed (lift_record set input at out) =
-    cond (at_least 3 out && all_set set) (recorded (taken_at input at).outcome (asks (settings_in set) (taken_at input at).insn)) []
+unfoldable pub handed : Call → List Instruction
+handed (lift flat out) = cond (at_least 1 out) (cond (at_least 177 flat) (insn_of flat ∷ []) []) []
+handed (lift_record input at out) = cond (at_least 3 out) (recorded (taken_at input at).outcome (taken_at input at).insn) []
 
-unfoldable pub all_handed : List Call → List Asked
+unfoldable pub all_handed : List Call → List Instruction
 all_handed [] = []
 all_handed (c ∷ cs) = handed c ++ all_handed cs
 
@@ -87,19 +88,19 @@ abbrev words_of : Lifted → Words
 words_of x = record { state = x.state; nodes = x.nodes; statements = x.statements }
 
 -- One lift: its state is written, or where it is refused all is as it was
-module _ (w : Words) (i : Asked) (e : all small_is (take 13 w.state) ≡ true) (l : 13 ≤ length w.state) (b : Narrow (called (in_hand w) i).st) where
-  lift-holds : Holds (words_of (lifted_in i.settings i.insn w.state w.nodes w.statements)) (called (in_hand w) i)
+module _ (w : Words) (i : Instruction) (e : all small_is (take 13 w.state) ≡ true) (l : 13 ≤ length w.state) (b : Narrow (called (in_hand w) i).st) where
+  lift-holds : Holds (words_of (lifted_in i w.state w.nodes w.statements)) (called (in_hand w) i)
   unfolding lifted_in called stepped
   lift-holds = rw e (way (leb (answered (in_hand w) i) 2) refl)
     where
       x : Built
-      x = lift_at (in_hand w) i
+      x = lift_of (state_in w.state) i w.nodes w.statements
 
       left : State → Held
       left s = record { st = s; nodes = wrote w.nodes x.ns; statements = wrote w.statements x.ss }
 
       way : (t : Bool) → leb x.val 2 ≡ t
-          → Holds (words_of (record { answer = x.val; detail = detail_of x.val i.settings i.insn; state = kept_if t x.st w.state; nodes = wrote w.nodes x.ns; statements = wrote w.statements x.ss })) (left x.st)
+          → Holds (words_of (record { answer = x.val; detail = detail_of x.val i; state = kept_if t x.st w.state; nodes = wrote w.nodes x.ns; statements = wrote w.statements x.ss })) (left x.st)
       way true p =
           record {
             held = ap left (state-back w.state x.st l b);
@@ -113,58 +114,51 @@ same-holds : {w : Words} {h : Held} (r : ℕ) → Holds w h → Holds (words_of 
 same-holds r k = record { held = k.held; small = k.small; long = k.long }
 
 module _ (nodes statements : List ℕ) where
-  abbrev run : List Asked → Held
+  abbrev run : List Instruction → Held
   run is = ran (begun nodes statements) is
 
   -- A run whose words hold it, with one more call
-  lifted-on : (w : Words) (is : List Asked) (i : Asked) → Holds w (run is) → Holds (words_of (lifted_in i.settings i.insn w.state w.nodes w.statements)) (run (is ++ (i ∷ [])))
+  lifted-on : (w : Words) (is : List Instruction) (i : Instruction) → Holds w (run is) → Holds (words_of (lifted_in i w.state w.nodes w.statements)) (run (is ++ (i ∷ [])))
   lifted-on w is i k =
       let c : called (in_hand w) i ≡ run (is ++ (i ∷ [])) = ap (λ (h : Held). called h i) k.held ∙ sym (ran_on (begun nodes statements) is i) in
       let b : Narrow (called (in_hand w) i).st = rw c (tracked-narrow (run-tracked nodes statements (is ++ (i ∷ []))).tracks) in
-      subst (Holds (words_of (lifted_in i.settings i.insn w.state w.nodes w.statements))) c (lift-holds w i k.small k.long b)
+      subst (Holds (words_of (lifted_in i w.state w.nodes w.statements))) c (lift-holds w i k.small k.long b)
 
-  nothing-on : (w : Words) (is : List Asked) (r : ℕ) → Holds w (run is) → Holds (words_of (unchanged r w.state w.nodes w.statements)) (run (is ++ []))
+  nothing-on : (w : Words) (is : List Instruction) (r : ℕ) → Holds w (run is) → Holds (words_of (unchanged r w.state w.nodes w.statements)) (run (is ++ []))
   nothing-on w is r k = rw append-nil (same-holds r k)
 
-  call-on : (w : Words) (is : List Asked) (c : Call) → Holds w (run is) → Holds (made w c) (run (is ++ handed c))
+  call-on : (w : Words) (is : List Instruction) (c : Call) → Holds w (run is) → Holds (made w c) (run (is ++ handed c))
   unfolding made promised handed called_of lifted_of stepped_of step_of
-  call-on w is (lift set flat out) k = way (at_least 1 out) (asked set flat) (at_least 13 w.state) (le-leb 13 (length w.state) k.long)
+  call-on w is (lift flat out) k = way (at_least 1 out) (at_least 177 flat) (at_least 13 w.state) (le-leb 13 (length w.state) k.long)
     where
-      i : Asked
-      i = asks (settings_in set) (insn_of flat)
-
       left : Lifted
       left = unchanged 10 w.state w.nodes w.statements
 
-      way : (u v x : Bool) → x ≡ true
-          → Holds (words_of (cond u (cond (v && x) (lifted_in i.settings i.insn w.state w.nodes w.statements) left) left)) (run (is ++ cond (u && v) (i ∷ []) []))
-      way true true true e = lifted-on w is i k
+      way : (u t x : Bool) → x ≡ true
+          → Holds (words_of (cond u (cond (t && x) (lifted_in (insn_of flat) w.state w.nodes w.statements) left) left)) (run (is ++ cond u (cond t (insn_of flat ∷ []) []) []))
+      way true true true e = lifted-on w is (insn_of flat) k
       way true true false e = absurd (false≢true e)
       way true false x e = nothing-on w is 10 k
-      way false v x e = nothing-on w is 10 k
-  call-on w is (lift_record set input at out) k = way (at_least 3 out) (all_set set) (at_least 13 w.state) (taken_at input at).outcome (le-leb 13 (length w.state) k.long)
+      way false t x e = nothing-on w is 10 k
+  call-on w is (lift_record input at out) k = way (at_least 3 out) (at_least 13 w.state) (taken_at input at).outcome (le-leb 13 (length w.state) k.long)
     where
-      i : Asked
-      i = asks (settings_in set) (taken_at input at).insn
+      i : Instruction
+      i = (taken_at input at).insn
 
-      short : Stepped
-      short = record { lifted = unchanged 10 w.state w.nodes w.statements; told = 0 ∷ 0 ∷ 0 ∷ [] }
+      way : (t x : Bool) (o : Outcome) → x ≡ true
+          → Holds (words_of (cond t (cond x (step_of o i at w.state w.nodes w.statements) (record { lifted = unchanged 10 w.state w.nodes w.statements; told = 0 ∷ 0 ∷ 0 ∷ [] })).lifted (unchanged 10 w.state w.nodes w.statements)))
+          (run (is ++ cond t (recorded o i) []))
+      way true true (Record c) e = lifted-on w is i k
+      way true true (End c) e = nothing-on w is 0 k
+      way true true (Refused r p) e = nothing-on w is (refusal_of r) k
+      way true false o e = absurd (false≢true e)
+      way false x o e = nothing-on w is 10 k
 
-      way : (u v x : Bool) (o : Outcome) → x ≡ true
-          → Holds (words_of (cond u (cond (v && x) (step_of i.settings o i.insn at w.state w.nodes w.statements) short).lifted (unchanged 10 w.state w.nodes w.statements)))
-          (run (is ++ cond (u && v) (recorded o i) []))
-      way true true true (Record c) e = lifted-on w is i k
-      way true true true (End c) e = nothing-on w is 0 k
-      way true true true (Refused r p) e = nothing-on w is (refusal_of r) k
-      way true true false o e = absurd (false≢true e)
-      way true false x o e = nothing-on w is 10 k
-      way false v x o e = nothing-on w is 10 k
-
-  calls-on : (w : Words) (is : List Asked) (cs : List Call) → Holds w (run is) → Holds (makes w cs) (run (is ++ all_handed cs))
+  calls-on : (w : Words) (is : List Instruction) (cs : List Call) → Holds w (run is) → Holds (makes w cs) (run (is ++ all_handed cs))
   unfolding makes all_handed
   calls-on w is [] k = rw append-nil k
   calls-on w is (c ∷ cs) k =
-      subst (λ (js : List Asked). Holds (makes (made w c) cs) (run js)) (append_assoc is (handed c) (all_handed cs)) (calls-on (made w c) (is ++ handed c) cs (call-on w is c k))
+      subst (λ (js : List Instruction). Holds (makes (made w c) cs) (run js)) (append_assoc is (handed c) (all_handed cs)) (calls-on (made w c) (is ++ handed c) cs (call-on w is c k))
 
   -- THE RUN
   pub calls-run : (state : List ℕ) (cs : List Call) → take 13 state ≡ replicate 13 0

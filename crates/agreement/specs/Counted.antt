@@ -7,8 +7,9 @@ use Rattle.std.proofs.Common.{sym, subst, ◌∙◌, arith}
 use Rattle.std.proofs.Math.Decide.{dec_lt}
 use Rattle.lists.specs.Rows.{Row, wrote}
 use Rattle.lists.specs.Steps.{gives}
+use Rattle.forms.specs.declared.Instruction.{Instruction}
 use Rattle.sorts.specs.Lists.{field}
-use Rattle.agreement.specs.Runs.{Asked, Held, begun, stepped, called, ran}
+use Rattle.agreement.specs.Runs.{Held, begun, stepped, called, ran}
 use Rattle.agreement.specs.Demands.{kind_at}
 use Rattle.agreement.specs.Operands.{Each}
 use Rattle.agreement.specs.Laid.{Lies}
@@ -35,7 +36,7 @@ pub record Since (d h : Held) : Type 0 where
   pub kept' : (x : ℕ) → x < 4 * d.st.statements → get_or h.statements x 0 ≡ get_or d.statements x 0
 
 -- One call more
-pub call-counted : (h : Held) (i : Asked) → Counted h → Counted (called h i)
+pub call-counted : (h : Held) (i : Instruction) → Counted h → Counted (called h i)
 unfolding stepped gives wrote
 call-counted h i c =
     by_call Counted h i (λ r. record { inputs = c.inputs; temporaries = c.temporaries }) (λ w.
@@ -56,7 +57,7 @@ added k n m i j l w w' rs h r p q e f v x y z = way (dec_lt v m)
     way (yes d) = rw (e (4 * v + 1) (omega arith)) (f v x d (rw (e (4 * v) (omega arith)) at z))
     way (no d) = let o = once-from k w' rs m j l r p q v (omega arith) y z in omega arith
 
-call-since : (d h : Held) (i : Asked) → Since d h → Since d (called h i)
+call-since : (d h : Held) (i : Instruction) → Since d h → Since d (called h i)
 unfolding stepped gives wrote
 call-since d h i s =
     by_call (Since d) h i
@@ -78,17 +79,17 @@ call-since d h i s =
     })
 
 -- Any number of calls, from any state whose counters count; from any state at all
-pub counts-on : (h : Held) (is : List Asked) → Counted h → Counted (ran h is)
+pub counts-on : (h : Held) (is : List Instruction) → Counted h → Counted (ran h is)
 unfolding ran
 counts-on h [] c = c
 counts-on h (i ∷ is) c = counts-on (called h i) is (call-counted h i c)
 
-runs-since : (d h : Held) (is : List Asked) → Since d h → Since d (ran h is)
+runs-since : (d h : Held) (is : List Instruction) → Since d h → Since d (ran h is)
 unfolding ran
 runs-since d h [] s = s
 runs-since d h (i ∷ is) s = runs-since d (called h i) is (call-since d h i s)
 
-pub since : (d : Held) (is : List Asked) → Since d (ran d is)
+pub since : (d : Held) (is : List Instruction) → Since d (ran d is)
 since d is =
     runs-since d d is (record {
       nodes = omega arith;
@@ -105,7 +106,7 @@ since d is =
     none v x y = omega arith
 
 -- THE THEOREM
-pub counted : (nodes statements : List ℕ) (is : List Asked) → Counted (ran (begun nodes statements) is)
+pub counted : (nodes statements : List ℕ) (is : List Instruction) → Counted (ran (begun nodes statements) is)
 unfolding numbered below
 counted nodes statements is = counts-on (begun nodes statements) is (record { inputs = refl; temporaries = refl })
 

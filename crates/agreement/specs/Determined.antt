@@ -19,7 +19,6 @@ use Rattle.lists.specs.declared.Step.{Step}
 use Rattle.lists.specs.declared.Pushed.{Pushed}
 use Rattle.memory.specs.declared.Done.{Done}
 use Rattle.forms.specs.declared.Instruction.{Instruction}
-use Rattle.forms.specs.declared.Settings.{Settings}
 use Rattle.details.specs.Why.{detail_of}
 use Rattle.lifter.specs.Lift as lifter
 use Rattle.lifter.specs.declared.Lifted as lifter-declared
@@ -126,11 +125,11 @@ module _ {b : Built} {old l m old₂ l₂ m₂ : List ℕ} where
   does-step r s p q = (step_same (p.state ∙ sym q.state) (p.number ∙ sym q.number), cc, cc)
 
   -- .. and the detail, which follows from the answer
-  lift : {set : Settings} {i : Instruction} (r s : lifter-declared.Lifted) → lifter.Lifts b set i r.state r.answer r.detail old l old₂ l₂ → lifter.Lifts b set i s.state s.answer s.detail old m old₂ m₂
+  lift : {i : Instruction} (r s : lifter-declared.Lifted) → lifter.Lifts b i r.state r.answer r.detail old l old₂ l₂ → lifter.Lifts b i s.state s.answer s.detail old m old₂ m₂
       → (r ≡ s) × (l ≡ m) × (l₂ ≡ m₂)
-  lift {set} {i} r s p q =
+  lift {i = i} r s p q =
       let a = p.does.number ∙ sym q.does.number in
-      (lifted-same (p.does.state ∙ sym q.does.state) a (p.detail-is ∙ ap (λ (n : ℕ). detail_of n set i) a ∙ sym q.detail-is), p.does.list ∙ sym q.does.list, p.does.said ∙ sym q.does.said)
+      (lifted-same (p.does.state ∙ sym q.does.state) a (p.detail-is ∙ ap (λ (n : ℕ). detail_of n i) a ∙ sym q.detail-is), p.does.list ∙ sym q.does.list, p.does.said ∙ sym q.does.said)
 
 module _ {r s : ℕ} where
   tells : {k : ℕ} {x : Said} {out l m : List ℕ} → Tells k x out r l → Tells k x out s m → (r ≡ s) × (l ≡ m)
@@ -275,12 +274,6 @@ pub words·eight : Determined Rattle.words.proofs.bytes.eight.Reads.Post
 words·eight κ a r s x y = one
 
 -- forms
-
-pub forms·refusal-number : Determined Rattle.forms.proofs.refusal_number.Reads.Post
-forms·refusal-number κ a r s x y = one
-
-pub forms·dialect-is : Determined Rattle.forms.proofs.dialect_is.Reads.Post
-forms·dialect-is κ a r s x y = one
 
 pub forms·classify : Determined Rattle.forms.proofs.classify.Reads.Post
 forms·classify κ a r s x y = one
@@ -708,25 +701,22 @@ answers·reading-place κ a r s x y = one
 
 -- export
 
-pub export·x87-settings : Determined Rattle.export.proofs.x87_settings.Reads.Post
-export·x87-settings κ a r s x y = one
-
-pub export·x87-classify : Determined₁ Rattle.export.proofs.x87_classify.Reads.Post (λ κ x. x.1.1.0.now)
+pub export·x87-classify : Determined₁ Rattle.export.proofs.x87_classify.Reads.Post (λ κ x. x.1.0.now)
 export·x87-classify κ a r s x y = tells
 
-pub export·x87-why : Determined₁ Rattle.export.proofs.x87_why.Reads.Post (λ κ x. x.1.1.0.now)
+pub export·x87-why : Determined₁ Rattle.export.proofs.x87_why.Reads.Post (λ κ x. x.1.0.now)
 export·x87-why κ a r s x y = tells
 
-pub export·x87-effect : Determined₁ Rattle.export.proofs.x87_effect.Reads.Post (λ κ x. x.1.1.0.now)
+pub export·x87-effect : Determined₁ Rattle.export.proofs.x87_effect.Reads.Post (λ κ x. x.1.0.now)
 export·x87-effect κ a r s x y = tells
 
 pub export·x87-read-record : Determined₂ Rattle.export.proofs.x87_read_record.Reads.Post (λ κ x. x.1.1.0.now) (λ κ x. x.1.1.1.0.now)
 export·x87-read-record κ a r s x y = reads
 
-pub export·x87-lift : Determined₄ Rattle.export.proofs.x87_lift.Reads.Post (λ κ x. x.1.1.0.now) (λ κ x. x.1.1.1.0.now) (λ κ x. x.1.1.1.1.0.now) (λ κ x. x.1.1.1.1.1.0.now)
+pub export·x87-lift : Determined₄ Rattle.export.proofs.x87_lift.Reads.Post (λ κ x. x.1.0.now) (λ κ x. x.1.1.0.now) (λ κ x. x.1.1.1.0.now) (λ κ x. x.1.1.1.1.0.now)
 export·x87-lift κ a r s x y = steps
 
-pub export·x87-lift-record : Determined₄ Rattle.export.proofs.x87_lift_record.Reads.Post (λ κ x. x.1.1.1.0.now) (λ κ x. x.1.1.1.1.0.now) (λ κ x. x.1.1.1.1.1.0.now) (λ κ x. x.1.1.1.1.1.1.0.now)
+pub export·x87-lift-record : Determined₄ Rattle.export.proofs.x87_lift_record.Reads.Post (λ κ x. x.1.1.0.now) (λ κ x. x.1.1.1.0.now) (λ κ x. x.1.1.1.1.0.now) (λ κ x. x.1.1.1.1.1.0.now)
 export·x87-lift-record κ a r s x y = steps
 
 pub export·x87-image-read : Determined₁ Rattle.export.proofs.values.x87_image_read.Reads.Post (λ κ x. x.1.1.1.0.now)
@@ -765,7 +755,7 @@ writing·binary κ a r s x y = put
 
 -- listing
 
-pub listing·run : Determined₂ Rattle.listing.proofs.run.Reads.Post (λ κ x. x.1.1.0.now) (λ κ x. x.1.1.1.0.now)
+pub listing·run : Determined₂ Rattle.listing.proofs.run.Reads.Post (λ κ x. x.1.0.now) (λ κ x. x.1.1.0.now)
 listing·run κ a r s x y = runs
 
 pub listing·list : Determined₁ Rattle.listing.proofs.list.Reads.Post (λ κ x. x.1.1.1.0.now)

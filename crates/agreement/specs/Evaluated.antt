@@ -3,12 +3,13 @@
 -- and each value is below 2 to its width: below 2^79 at each used place of the stack, and at each statement below 2 to the bits of its place.
 use Rattle.std.specs.Prelude.{◌≡◌, List, ℕ, ◌/◌, ◌^◌, ◌≤◌, ◌<◌, length, get_or}
 use Rattle.std.proofs.Common.{ap, subst, ◌∙◌}
+use Rattle.forms.specs.declared.Instruction.{Instruction}
 use Rattle.evaluator.specs.Value.{width_of}
 use Rattle.evaluator.specs.Lists.{vals}
 use Rattle.evaluator.specs.Within.{GivenFits}
 use Rattle.evaluator.specs.Fits.{width-bits}
 use Rattle.evaluator.specs.Laws.{Evaluates, evaluates}
-use Rattle.agreement.specs.Runs.{Asked, Held, begun, ran}
+use Rattle.agreement.specs.Runs.{Held, begun, ran}
 use Rattle.agreement.specs.Demands.{kind_at, named_at, bits_at}
 use Rattle.agreement.specs.Demands.Laws.{named-at}
 use Rattle.agreement.specs.Sorted.{sorts_of, Sound, sorted}
@@ -37,6 +38,6 @@ sound-evaluated h g m s p q f =
           subst (λ (b : ℕ). value_of h g v < 2 ^ b) (ap width_of w.0 ∙ width-bits (bits_at h.statements j) w.2) (e.fits v);
     }
 
-pub evaluated : (nodes statements : List ℕ) (is : List Asked) (g : List ℕ) (m : ℕ) → let h = ran (begun nodes statements) is in
+pub evaluated : (nodes statements : List ℕ) (is : List Instruction) (g : List ℕ) (m : ℕ) → let h = ran (begun nodes statements) is in
     h.st.nodes ≤ length g / 2 → h.st.nodes ≤ m / 2 → GivenFits h.nodes g h.st.nodes → Evaluated h g m
 evaluated nodes statements is g m p q f = sound-evaluated (ran (begun nodes statements) is) g m (sorted nodes statements is) p q f

@@ -11,7 +11,8 @@ use Rattle.std.proofs.Common.{sym, subst, ◌∙◌, arith, take-take}
 use Rattle.std.proofs.lemmas.List.{length-replicate}
 use Rattle.lists.specs.Rows.{room_of}
 use Rattle.lists.specs.Stack.{read_of}
-use Rattle.agreement.specs.Runs.{Asked, Held, begun, answered, declines, stepped, called, ran}
+use Rattle.forms.specs.declared.Instruction.{Instruction}
+use Rattle.agreement.specs.Runs.{Held, begun, answered, declines, stepped, called, ran}
 use Rattle.agreement.specs.Demands.{kind_at, named_at}
 use Rattle.agreement.specs.Demands.Laws.{named-at}
 use Rattle.agreement.specs.Operands.{Each, each_map, operands_at, operands-at}
@@ -41,7 +42,7 @@ pub record Apart (d h : Held) : Type 0 where
 
 pub record Forgets (d : Held) : Type 0 where
   pub empty : d.st.depth ≡ 0
-  pub apart : (is : List Asked) → Apart d (ran d is)
+  pub apart : (is : List Instruction) → Apart d (ran d is)
 
 -- A run that is followed from a state of which no node is known
 followed-apart : (d : Held) (Γ : List ℕ) (h : Held) → Since d h → Tracks (replicate d.st.nodes 0) d.st.statements Γ h → Apart d h
@@ -63,7 +64,7 @@ followed-apart d Γ h s t =
           record { before = x.before; number = x.number; last = x.last; later = omega (arith, x.later, t.starts); unused = x.unused };
     }
 
-pub forgets : (h : Held) (i : Asked) → length h.st.slots ≡ 8 → declines (answered h i) ≡ true → Forgets (called h i)
+pub forgets : (h : Held) (i : Instruction) → length h.st.slots ≡ 8 → declines (answered h i) ≡ true → Forgets (called h i)
 unfolding called stepped
 forgets h i l e =
     let d = called h i in
@@ -80,10 +81,10 @@ forgets h i l e =
 -- .. and of a run from the fresh state: there no node of the list has the number of an input that a read adds
 pub record RunForgets (d : Held) : Type 0 where
   pub forgets : Forgets d
-  pub unseen : (is : List Asked) (i : ℕ) (a : (ran d is).st.depth ≤ i) (b : i ≤ 7) (v : ℕ) → v < (ran d is).st.nodes → kind_at (ran d is).nodes v ≡ 1
+  pub unseen : (is : List Instruction) (i : ℕ) (a : (ran d is).st.depth ≤ i) (b : i ≤ 7) (v : ℕ) → v < (ran d is).st.nodes → kind_at (ran d is).nodes v ≡ 1
       → field (ran d is).nodes v 1 < ((forgets.apart is).reads i a b).number
 
-pub run-forgets : (nodes statements : List ℕ) (is : List Asked) (i : Asked) → let h = ran (begun nodes statements) is in
+pub run-forgets : (nodes statements : List ℕ) (is : List Instruction) (i : Instruction) → let h = ran (begun nodes statements) is in
     declines (answered h i) ≡ true → RunForgets (called h i)
 run-forgets nodes statements is i e =
     let h = ran (begun nodes statements) is in

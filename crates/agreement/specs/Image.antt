@@ -14,12 +14,12 @@ use Rattle.forms.specs.Classify.{classify_of}
 use Rattle.forms.specs.declared.Classified.TheVariants.{Modelled}
 use Rattle.forms.specs.declared.Form.TheVariants.{PushMemory, StoreMemory}
 use Rattle.forms.specs.declared.Instruction.{Instruction}
-use Rattle.forms.specs.declared.Settings.{Settings}
 use Rattle.forms.specs.declared.MemFormat.TheVariants.{Float}
 use Rattle.forms.specs.declared.RoundingMode.{RoundingMode}
 use Rattle.memory.specs.Memory.{top_of, x87_memory_read_of}
 use Rattle.moves.specs.Pushes.{push_memory_of}
 use Rattle.lifter.specs.Apply.{apply_x87_of}
+use Rattle.lifter.specs.Lift.{lift_of}
 use Rattle.memory.specs.Site.{site_of}
 use Rattle.sorts.specs.Sorts.{sort_row}
 use Rattle.sorts.specs.Lists.{sorts}
@@ -28,7 +28,7 @@ use Rattle.evaluator.specs.Value.{width_of}
 use Rattle.evaluator.specs.Lists.{pair_at, vals}
 use Rattle.evaluator.specs.Within.{GivenFits}
 use Rattle.evaluator.specs.Laws.{all_fit}
-use Rattle.agreement.specs.Runs.{Asked, Held, lift_at, begun, stepped, called, ran, ran_on}
+use Rattle.agreement.specs.Runs.{Held, begun, stepped, called, ran, ran_on}
 use Rattle.agreement.specs.Fits.{form_fits, memory_fits, is_memory, first_of, no_register}
 use Rattle.agreement.specs.Fits.Classified.{classify-fits}
 use Rattle.agreement.specs.Tracks.Sorts.{run-tracked}
@@ -43,17 +43,17 @@ pub mod Steps
 pub mod Lifts
 
 -- A store to memory has no register for its operand
-stores-to-memory : (set : Settings) (i : Instruction) (w : ℕ) (pop : Bool) (r : RoundingMode) → classify_of set i ≡ Modelled (StoreMemory w Float pop r) → (site_of i).register ≡ false
+stores-to-memory : (i : Instruction) (w : ℕ) (pop : Bool) (r : RoundingMode) → classify_of i ≡ Modelled (StoreMemory w Float pop r) → (site_of i).register ≡ false
 unfolding form_fits
-stores-to-memory set i w pop r e = no_register (first_of i) w (and_r (memory_fits w Float) (is_memory (first_of i) w) (classify-fits set i (StoreMemory w Float pop r) e))
+stores-to-memory i w pop r e = no_register (first_of i) w (and_r (memory_fits w Float) (is_memory (first_of i) w) (classify-fits i (StoreMemory w Float pop r) e))
 
-module _ (nodes statements : List ℕ) (is : List Asked) (i : Asked) where
+module _ (nodes statements : List ℕ) (is : List Instruction) (i : Instruction) where
   -- The run, and the run with one call more
   abbrev before : Held
   before = ran (begun nodes statements) is
 
   abbrev lift : Built
-  lift = lift_at before i
+  lift = lift_of before.st i before.nodes before.statements
 
   abbrev words : List ℕ
   words = wrote before.nodes lift.ns
@@ -75,28 +75,28 @@ module _ (nodes statements : List ℕ) (is : List Asked) (i : Asked) where
 
   module _ (g : List ℕ) (answers : lift.val ≡ 0) (fits : GivenFits words g lift.st.nodes) where
     -- The load
-    pub fld-80-run : classify_of i.settings i.insn ≡ Modelled (PushMemory 80 Float) → Loads before.st i.insn lift words g
+    pub fld-80-run : classify_of i ≡ Modelled (PushMemory 80 Float) → Loads before.st i lift words g
     unfolding apply_x87_of push_memory_of ◌▸◌ sort_at
     fld-80-run c =
         let n = before.st.nodes in
-        let load = x87_memory_read_of before.st (site_of i.insn) 80 Float in
+        let load = x87_memory_read_of before.st (site_of i) 80 Float in
         let a = applied before.st i before.nodes before.statements (PushMemory 80 Float) c answers in
-        let l = load_is before.st i.insn words (front words load.ns _ (subst (λ (d : Built). InWords words d.ns) a.same a.stands)) in
+        let l = load_is before.st i words (front words load.ns _ (subst (λ (d : Built). InWords words d.ns) a.same a.stands)) in
         let e = simp length-append at (ap (λ (d : Built). length d.ns) a.same) in
         let more : n < lift.st.nodes = omega (arith, a.counts, e, l.some) in
         let k : pair_at g n < 2 ^ 80 = subst (λ (σ : ℕ). pair_at g n < 2 ^ width_of σ) l.sort (fits n more l.taken) in
-        fld-80 before.st i.settings i.insn before.nodes before.statements g c answers k
+        fld-80 before.st i before.nodes before.statements g c answers k
 
     -- The store
-    pub fstp-80-run : (pop : Bool) (r : RoundingMode) → classify_of i.settings i.insn ≡ Modelled (StoreMemory 80 Float pop r) → Stores before.st i.insn lift words g
+    pub fstp-80-run : (pop : Bool) (r : RoundingMode) → classify_of i ≡ Modelled (StoreMemory 80 Float pop r) → Stores before.st i lift words g
     unfolding apply_x87_of ◌▸◌ sort_row
     fstp-80-run pop r c =
         let n = before.st.nodes in
         let m = lift.st.nodes in
         let t = (read_of before.st 0).val in
         let a = applied before.st i before.nodes before.statements (StoreMemory 80 Float pop r) c answers in
-        let free = stores-to-memory i.settings i.insn 80 pop r c in
-        let e : lift ≡ stored before.st i.insn pop = a.same ∙ store_is before.st i.insn pop r free in
+        let free = stores-to-memory i 80 pop r c in
+        let e : lift ≡ stored before.st i pop = a.same ∙ store_is before.st i pop r free in
         let rows = front words (top_of before.st pop).ns _ (subst (λ (d : Built). InWords words d.ns) e a.stands) in
         let k = simp length-append at (ap (λ (d : Built). length d.ns) e) in
         let more : n < m = omega (arith, a.counts, k, write-some (top_of before.st pop).st (top_of before.st pop).val) in
@@ -105,4 +105,4 @@ module _ (nodes statements : List ℕ) (is : List Asked) (i : Asked) where
         (λ d. kept-sort a.keeps m _ (a.top d) (omega (arith, a.counts)) ∙ (sorted nodes statements is).places 0 d)
         (λ q. sort-at words n m more ∙ (given {g = []} q refl).sort) pop rows in
         let small : get_or (vals words g m) t 0 < 2 ^ 79 = subst (λ (σ : ℕ). get_or (vals words g m) t 0 < 2 ^ width_of σ) sort (all_fit words g m passes fits t) in
-        fstp-80 before.st i.settings i.insn before.nodes before.statements g pop r c free answers sort small
+        fstp-80 before.st i before.nodes before.statements g pop r c free answers sort small

@@ -3,7 +3,6 @@ pub mod Runs
 pub mod Demands
 pub mod Fits
 pub mod Declines
-pub mod Dialect
 pub mod Fine
 pub mod Makes
 pub mod Laid

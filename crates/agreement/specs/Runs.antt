@@ -5,11 +5,7 @@ use Rattle.lists.specs.Steps.{Built, Does}
 use Rattle.lists.specs.Stack.{fresh}
 use Rattle.lists.specs.declared.State.{State}
 use Rattle.forms.specs.declared.Instruction.{Instruction}
-use Rattle.forms.specs.declared.Settings.{Settings}
-use Rattle.forms.specs.Classify.{classify_of}
-use Rattle.details.specs.Why.{why_of}
-use Rattle.memory.specs.Site.{site_of}
-use Rattle.lifter.specs.Lift.{lowered_of, lift_of}
+use Rattle.lifter.specs.Lift.{lift_of}
 
 -- What a run has come to: the state, the words of the nodes, the words of the statements
 pub record Held : Type 0 where
@@ -25,52 +21,36 @@ begun nodes statements = record { st = fresh; nodes = nodes; statements = statem
 unfoldable pub stepped : Held → Built → Held
 stepped h b = record { st = b.st; nodes = wrote h.nodes b.ns; statements = wrote h.statements b.ss }
 
--- What one call of lift is asked: an instruction, and the settings that it is read by
-pub record Asked : Type 0 where
-  pub settings : Settings
-  pub insn : Instruction
-
-abbrev pub asks : Settings → Instruction → Asked
-asks set i = record { settings = set; insn = i }
-
--- What it comes to from a state, over lists of any length
-abbrev pub lowered_at : State → Asked → Built
-lowered_at s i = lowered_of s (classify_of i.settings i.insn) (why_of i.settings i.insn) (site_of i.insn)
-
--- .. and over the lists that there are
-abbrev pub lift_at : Held → Asked → Built
-lift_at h i = lift_of h.st i.settings i.insn h.nodes h.statements
-
 -- One call of lift
-unfoldable pub called : Held → Asked → Held
-called h i = stepped h (lift_at h i)
+unfoldable pub called : Held → Instruction → Held
+called h i = stepped h (lift_of h.st i h.nodes h.statements)
 
 -- The number that it answers
-abbrev pub answered : Held → Asked → ℕ
-answered h i = (lift_at h i).val
+abbrev pub answered : Held → Instruction → ℕ
+answered h i = (lift_of h.st i h.nodes h.statements).val
 
 -- Answers 1 and 2 are the declines
 abbrev pub declines : ℕ → Bool
 declines r = eqb r 1 || eqb r 2
 
--- Any number of calls, one after the other, each by its own settings
-unfoldable pub ran : Held → List Asked → Held
+-- Any number of calls, one after the other
+unfoldable pub ran : Held → List Instruction → Held
 ran h [] = h
 ran h (i ∷ is) = ran (called h i) is
 
 -- Some calls, and then one more, or any number
-pub ran_on : (h : Held) (is : List Asked) (i : Asked) → ran h (is ++ (i ∷ [])) ≡ called (ran h is) i
+pub ran_on : (h : Held) (is : List Instruction) (i : Instruction) → ran h (is ++ (i ∷ [])) ≡ called (ran h is) i
 unfolding ran
 ran_on h [] i = refl
 ran_on h (j ∷ is) i = ran_on (called h j) is i
 
-pub ran_append : (h : Held) (is js : List Asked) → ran h (is ++ js) ≡ ran (ran h is) js
+pub ran_append : (h : Held) (is js : List Instruction) → ran h (is ++ js) ≡ ran (ran h is) js
 unfolding ran
 ran_append h [] js = refl
 ran_append h (i ∷ is) js = ran_append (called h i) is js
 
 -- What lifter::lift promises of a call makes of the words and the state what `called` says
-pub call-is : (s s' : State) (set : Settings) (i : Instruction) (r : ℕ) (n n' m m' : List ℕ) → Does (lift_of s set i n m) s' r n n' m m'
-    → called (record { st = s; nodes = n; statements = m }) (asks set i) ≡ record { st = s'; nodes = n'; statements = m' }
+pub call-is : (s s' : State) (i : Instruction) (r : ℕ) (n n' m m' : List ℕ) → Does (lift_of s i n m) s' r n n' m m'
+    → called (record { st = s; nodes = n; statements = m }) i ≡ record { st = s'; nodes = n'; statements = m' }
 unfolding called stepped
-call-is s s' set i r n n' m m' p = cc
+call-is s s' i r n n' m m' p = cc

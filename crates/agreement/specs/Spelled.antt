@@ -1,5 +1,5 @@
 -- Instructions by their texts, at address 16
-use Rattle.std.specs.Prelude.{◌≡◌, true, [], ◌∷◌, ℕ, length}
+use Rattle.std.specs.Prelude.{◌≡◌, refl, true, [], ◌∷◌, ℕ, length}
 use Prim.Native.String as str
 use Rattle.texts.specs.Bytes.{bytes, valid_of}
 use Rattle.texts.specs.Letters.{cut, trim_of}
@@ -7,10 +7,9 @@ use Rattle.texts.specs.declared.Text.{Text}
 use Rattle.forms.specs.Operands.{ranged_is, spelled_is, slot_of, width_of}
 use Rattle.forms.specs.Names.{names, family_of}
 use Rattle.forms.specs.Families.{form_of}
-use Rattle.forms.specs.Classify.{dialect_is, classify_of}
+use Rattle.forms.specs.Classify.{classify_of}
 use Rattle.forms.specs.declared.Operand.{Operand}
 use Rattle.forms.specs.declared.Instruction.{Instruction}
-use Rattle.forms.specs.declared.Settings.{Settings}
 use Rattle.forms.specs.declared.Form.TheVariants.{PushMemory, StoreMemory}
 use Rattle.forms.specs.declared.MemFormat.TheVariants.{Float}
 use Rattle.forms.specs.declared.RoundingMode.TheVariants.{NearestTiesEven}
@@ -41,11 +40,11 @@ in_memory m width address slot = instruction m 1 (memory width 1 address slot) a
 abbrev pub bits : str.String → ℕ → Instruction
 bits m width = in_memory m width 7 0
 
--- `fld` and `fstp` at 80, wherever their memory is, in every dialect
-pub fld-80-is : (set : Settings) (address slot : ℕ) → dialect_is set.dialect ≡ true → classify_of set (in_memory "fld" 80 address slot) ≡ Modelled (PushMemory 80 Float)
+-- `fld` and `fstp` at 80, wherever their memory is
+pub fld-80-is : (address slot : ℕ) → classify_of (in_memory "fld" 80 address slot) ≡ Modelled (PushMemory 80 Float)
 unfolding classify_of form_of family_of names ranged_is spelled_is slot_of width_of valid_of trim_of cut
-fld-80-is set address slot e = rw e
+fld-80-is address slot = refl
 
-pub fstp-80-is : (set : Settings) (address slot : ℕ) → dialect_is set.dialect ≡ true → classify_of set (in_memory "fstp" 80 address slot) ≡ Modelled (StoreMemory 80 Float true NearestTiesEven)
+pub fstp-80-is : (address slot : ℕ) → classify_of (in_memory "fstp" 80 address slot) ≡ Modelled (StoreMemory 80 Float true NearestTiesEven)
 unfolding classify_of form_of family_of names ranged_is spelled_is slot_of width_of valid_of trim_of cut
-fstp-80-is set address slot e = rw e
+fstp-80-is address slot = refl

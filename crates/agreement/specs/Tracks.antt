@@ -6,12 +6,17 @@ use Rattle.std.proofs.Math.Seq.{take-length}
 use Rattle.lists.specs.Rows.{room_of, wrote, length-wrote}
 use Rattle.lists.specs.Steps.{Built, gives}
 use Rattle.lists.proofs.Adds.{Adds}
-use Rattle.agreement.specs.Runs.{Asked, Held, lowered_at, stepped, called, ran}
+use Rattle.forms.specs.declared.Instruction.{Instruction}
+use Rattle.forms.specs.Classify.{classify_of}
+use Rattle.details.specs.Why.{why_of}
+use Rattle.memory.specs.Site.{site_of}
+use Rattle.lifter.proofs.Adds.{lowered-adds}
+use Rattle.agreement.specs.Runs.{Held, stepped, called, ran}
 use Rattle.agreement.specs.Demands.{demanded_at}
 use Rattle.agreement.specs.Fine.{grown, Placed, Knows, grown-stays, length-grown, Given, Fine}
 use Rattle.agreement.specs.Stands.{Stands, take-grown, numbered-order, after-exact, nodes-step, statements-step}
 use Rattle.agreement.specs.Fine.Lifts.{lowered-fine}
-use Rattle.agreement.specs.Added.{room-words, adds-at, by_call}
+use Rattle.agreement.specs.Added.{room-words, lowered_at, by_call}
 pub mod Sorts
 
 -- What holds of h, where the run began over Γ₀ and m₀ statements
@@ -78,16 +83,16 @@ pub record Followed (Γ₀ : List ℕ) (m₀ : ℕ) (h : Held) : Type 0 where
   pub tracks : Tracks Γ₀ m₀ sorts h
 
 -- One call of lift
-pub call-follows : {Γ₀ : List ℕ} {m₀ : ℕ} {h : Held} (i : Asked) → Followed Γ₀ m₀ h → Followed Γ₀ m₀ (called h i)
+pub call-follows : {Γ₀ : List ℕ} {m₀ : ℕ} {h : Held} (i : Instruction) → Followed Γ₀ m₀ h → Followed Γ₀ m₀ (called h i)
 call-follows {Γ₀} {m₀} {h} i f =
     by_call (Followed Γ₀ m₀) h i (λ r. record { sorts = f.sorts; tracks = gives-tracks r f.tracks }) (λ w.
     record {
-      sorts = grown f.sorts (lowered_at h.st i).ns;
-      tracks = step-tracks (lowered_at h.st i) f.tracks (lowered-fine i h.st) (adds-at h.st i) w.room w.room';
+      sorts = grown f.sorts (lowered_at h i).ns;
+      tracks = step-tracks (lowered_at h i) f.tracks (lowered-fine i h.st) (lowered-adds h.st (classify_of i) (why_of i) (site_of i)) w.room w.room';
     })
 
 -- Any number of calls
-pub run-follows : {Γ₀ : List ℕ} {m₀ : ℕ} {h : Held} (is : List Asked) → Followed Γ₀ m₀ h → Followed Γ₀ m₀ (ran h is)
+pub run-follows : {Γ₀ : List ℕ} {m₀ : ℕ} {h : Held} (is : List Instruction) → Followed Γ₀ m₀ h → Followed Γ₀ m₀ (ran h is)
 unfolding ran
 run-follows [] f = f
 run-follows (i ∷ is) f = run-follows is (call-follows i f)

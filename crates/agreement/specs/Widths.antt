@@ -6,9 +6,10 @@ use Rattle.std.proofs.Common.{sym, subst, arith, eqb-true}
 use Rattle.words.specs.Tests.{and_l, and_r}
 use Rattle.lists.specs.Rows.{wrote}
 use Rattle.lists.specs.Steps.{gives}
+use Rattle.forms.specs.declared.Instruction.{Instruction}
 use Rattle.forms.specs.declared.Operand.{Operand}
 use Rattle.sorts.specs.Lists.{field}
-use Rattle.agreement.specs.Runs.{Asked, Held, begun, stepped, called, ran}
+use Rattle.agreement.specs.Runs.{Held, begun, stepped, called, ran}
 use Rattle.agreement.specs.Demands.{kind_at}
 use Rattle.agreement.specs.Fits.{first_of, is_memory}
 use Rattle.agreement.specs.Laid.{each_row}
@@ -44,18 +45,18 @@ of-operand o w j e =
 abbrev Adds-of : Operand → Held → Held → Type 0
 Adds-of o h d = (j : ℕ) → h.st.statements ≤ j → j < d.st.statements → OfOperand o d.statements j
 
-call-widths : (h : Held) (i : Asked) → Adds-of (first_of i.insn) h (called h i)
+call-widths : (h : Held) (i : Instruction) → Adds-of (first_of i) h (called h i)
 unfolding stepped gives
 call-widths h i =
-    by_call (Adds-of (first_of i.insn) h) h i (λ r j x y. absurd (none j x y)) (λ w j x y.
-    of-operand (first_of i.insn) _ j (each_row (of_operand (first_of i.insn)) _ _ h.st.statements w.rows' (lowered-makes i h.st).operand j x (omega (arith, w.counts'))))
+    by_call (Adds-of (first_of i) h) h i (λ r j x y. absurd (none j x y)) (λ w j x y.
+    of-operand (first_of i) _ j (each_row (of_operand (first_of i)) _ _ h.st.statements w.rows' (lowered-makes i h.st).operand j x (omega (arith, w.counts'))))
   where
     none : (j : ℕ) → h.st.statements ≤ j → j < h.st.statements → ⊥
     none j x y = omega arith
 
 -- THE THEOREM: statement j, which the call on i adds, in what any later calls leave
-pub widths : (h : Held) (i : Asked) (later : List Asked) (j : ℕ) → h.st.statements ≤ j → j < (called h i).st.statements
-    → OfOperand (first_of i.insn) (ran (called h i) later).statements j
+pub widths : (h : Held) (i : Instruction) (later : List Instruction) (j : ℕ) → h.st.statements ≤ j → j < (called h i).st.statements
+    → OfOperand (first_of i) (ran (called h i) later).statements j
 widths h i later j x y =
     let d = called h i in
     let k = (since d later).kept' in

@@ -176,7 +176,8 @@ pub fn number(c: Classified) -> u32
     match c {
         Classified::Modelled(_) => 0,
         Classified::Declined => 1,
-        Classified::Refused(r) => forms::refusal_number(r),
+        Classified::BadText => 3,
+        Classified::BadOperands => 4,
     }
 }
 
@@ -186,7 +187,8 @@ pub fn fields(c: Classified) -> [u64; 8]
     match c {
         Classified::Modelled(f) => words(f),
         Classified::Declined => [0u64; 8],
-        Classified::Refused(_) => [0u64; 8],
+        Classified::BadText => [0u64; 8],
+        Classified::BadOperands => [0u64; 8],
     }
 }
 
@@ -196,7 +198,8 @@ pub fn effect_number(a: Affected) -> u32
     match a {
         Affected::Modelled(_) => 0,
         Affected::Declined => 1,
-        Affected::Refused(r) => forms::refusal_number(r),
+        Affected::BadText => 3,
+        Affected::BadOperands => 4,
     }
 }
 
@@ -221,7 +224,8 @@ pub fn effect_fields(a: Affected) -> [u64; 7]
     match a {
         Affected::Modelled(e) => flags(e),
         Affected::Declined => [0u64; 7],
-        Affected::Refused(_) => [0u64; 7],
+        Affected::BadText => [0u64; 7],
+        Affected::BadOperands => [0u64; 7],
     }
 }
 

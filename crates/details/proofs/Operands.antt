@@ -54,18 +54,18 @@ some-width IntArith = refl
 some-width IntStore = refl
 some-width StatusWidth = refl
 
--- a register is no memory
-pub kinds : (o : Operand) → eqb o.kind 0 ≡ true → eqb o.kind 1 ≡ false
-kinds o e = rw (eqb-true o.kind 0 e)
+module _ (o : Operand) where
+  -- a register is no memory
+  pub kinds : eqb o.kind 0 ≡ true → eqb o.kind 1 ≡ false
+  kinds e = rw (eqb-true o.kind 0 e)
 
-module _ (d : ℕ) (o : Operand) where
-  whole : (rs : Registers) (ws : List ℕ) → why_one d (only rs ws) o
-      ≡ cond (eqb o.kind 0) (cond (register_is d rs (bytes_of o.text)) 0 23) (cond (eqb o.kind 1) (cond (empty_is ws) 23 (memory_why (eqb o.known 1) (among o.width ws))) 23)
+  whole : (rs : Registers) (ws : List ℕ) → why_one (only rs ws) o
+      ≡ cond (eqb o.kind 0) (cond (register_is rs (bytes_of o.text)) 0 23) (cond (eqb o.kind 1) (cond (empty_is ws) 23 (memory_why (eqb o.known 1) (among o.width ws))) 23)
   unfolding why_one kind_off address_off width_off
-  whole rs ws = tests (eqb o.kind 0) (eqb o.kind 1) (register_is d rs (bytes_of o.text)) (empty_is ws) (eqb o.known 1) (among o.width ws) (kinds o)
+  whole rs ws = tests (eqb o.kind 0) (eqb o.kind 1) (register_is rs (bytes_of o.text)) (empty_is ws) (eqb o.known 1) (among o.width ws) kinds
 
-  pub memory-why : (ws : Widths) → why_one d (memory (widths_of ws)) o ≡ cond (eqb o.kind 1) (memory_why (eqb o.known 1) (takes_of ws o.width)) 23
-  memory-why ws = rw (whole no_register (widths_of ws), some-width ws) (way (eqb o.kind 0) (eqb o.kind 1) (kinds o))
+  pub memory-why : (ws : Widths) → why_one (memory (widths_of ws)) o ≡ cond (eqb o.kind 1) (memory_why (eqb o.known 1) (takes_of ws o.width)) 23
+  memory-why ws = rw (whole no_register (widths_of ws), some-width ws) (way (eqb o.kind 0) (eqb o.kind 1) kinds)
     where
       way : (r m : Bool) → (r ≡ true → m ≡ false) → cond r 23 (cond m (memory_why (eqb o.known 1) (takes_of ws o.width)) 23) ≡ cond m (memory_why (eqb o.known 1) (takes_of ws o.width)) 23
       way true true h = absurd (true≢false (h refl))
@@ -73,18 +73,18 @@ module _ (d : ℕ) (o : Operand) where
       way false m h = refl
 
   -- a place, by what the operand names
-  pub place-why : why_one d place o ≡ cond (place_is (slot_of d o)) 0 23
+  pub place-why : why_one place o ≡ cond (place_is (slot_of o)) 0 23
   unfolding slot_of
-  place-why = rw (whole places []) (way (eqb o.kind 0) (eqb o.kind 1) (place_of d (bytes_of o.text)))
+  place-why = rw (whole places []) (way (eqb o.kind 0) (eqb o.kind 1) (place_of (bytes_of o.text)))
     where
       way : (r m : Bool) (p : Place) → ◌≡◌ {A = ℕ} (cond r (cond (place_is p) 0 23) (cond m 23 23)) (cond (place_is (cond r p Nowhere)) 0 23)
       way true m p = refl
       way false true p = refl
       way false false p = refl
 
-  pub st0-why : why_one d st0 o ≡ cond (top_is (slot_of d o)) 0 23
+  pub st0-why : why_one st0 o ≡ cond (top_is (slot_of o)) 0 23
   unfolding slot_of
-  st0-why = rw (whole st0-alone []) (way (eqb o.kind 0) (eqb o.kind 1) (place_of d (bytes_of o.text)))
+  st0-why = rw (whole st0-alone []) (way (eqb o.kind 0) (eqb o.kind 1) (place_of (bytes_of o.text)))
     where
       way : (r m : Bool) (p : Place) → ◌≡◌ {A = ℕ} (cond r (cond (top_is p) 0 23) (cond m 23 23)) (cond (top_is (cond r p Nowhere)) 0 23)
       way true m p = refl
@@ -92,28 +92,28 @@ module _ (d : ℕ) (o : Operand) where
       way false false p = refl
 
   -- a register or memory: the one's detail or the other's
-  either-why : (rs : Registers) (ws : Widths) → why_one d (only rs (widths_of ws)) o ≡ cond (eqb o.kind 0) (cond (register_is d rs (bytes_of o.text)) 0 23) (why_one d (memory (widths_of ws)) o)
+  either-why : (rs : Registers) (ws : Widths) → why_one (only rs (widths_of ws)) o ≡ cond (eqb o.kind 0) (cond (register_is rs (bytes_of o.text)) 0 23) (why_one (memory (widths_of ws)) o)
   either-why rs ws = rw (whole rs (widths_of ws), memory-why ws, some-width ws)
 
-  pub place-or-why : (ws : Widths) → why_one d (place-or (widths_of ws)) o ≡ cond (eqb o.kind 0) (why_one d place o) (why_one d (memory (widths_of ws)) o)
+  pub place-or-why : (ws : Widths) → why_one (place-or (widths_of ws)) o ≡ cond (eqb o.kind 0) (why_one place o) (why_one (memory (widths_of ws)) o)
   place-or-why ws = rw (either-why places ws, whole places []) (way (eqb o.kind 0))
     where
-      way : (r : Bool) → cond r (cond (place_is (place_of d (bytes_of o.text))) 0 23) (why_one d (memory (widths_of ws)) o)
-          ≡ cond r (cond r (cond (place_is (place_of d (bytes_of o.text))) 0 23) (cond (eqb o.kind 1) 23 23)) (why_one d (memory (widths_of ws)) o)
+      way : (r : Bool) → cond r (cond (place_is (place_of (bytes_of o.text))) 0 23) (why_one (memory (widths_of ws)) o)
+          ≡ cond r (cond r (cond (place_is (place_of (bytes_of o.text))) 0 23) (cond (eqb o.kind 1) 23 23)) (why_one (memory (widths_of ws)) o)
       way true = refl
       way false = refl
 
-  pub ax-or-why : (ws : Widths) → why_one d (ax-or (widths_of ws)) o ≡ cond (eqb o.kind 0) (cond (ax_of (bytes_of o.text)) 0 23) (why_one d (memory (widths_of ws)) o)
+  pub ax-or-why : (ws : Widths) → why_one (ax-or (widths_of ws)) o ≡ cond (eqb o.kind 0) (cond (ax_of (bytes_of o.text)) 0 23) (why_one (memory (widths_of ws)) o)
   ax-or-why ws = either-why ax-alone ws
 
 -- two registers
-pub two-why : (d : ℕ) (rs rs' : Registers) (a b : Operand) → why_two d (only rs []) (only rs' []) a b ≡ both_of (why_one d (only rs []) a) (why_one d (only rs' []) b)
+pub two-why : (rs rs' : Registers) (a b : Operand) → why_two (only rs []) (only rs' []) a b ≡ both_of (why_one (only rs []) a) (why_one (only rs' []) b)
 unfolding why_two kind_off address_off width_off
-two-why d rs rs' a b = rw (alone rs a, alone rs' b) (both-tests (eqb a.kind 0) (eqb a.kind 1) (register_is d rs (bytes_of a.text)) (eqb b.kind 0) (eqb b.kind 1) (register_is d rs' (bytes_of b.text)) _ _ _ _ (kinds a) (kinds b))
+two-why rs rs' a b = rw (alone rs a, alone rs' b) (both-tests (eqb a.kind 0) (eqb a.kind 1) (register_is rs (bytes_of a.text)) (eqb b.kind 0) (eqb b.kind 1) (register_is rs' (bytes_of b.text)) _ _ _ _ (kinds a) (kinds b))
   where
-    alone : (r : Registers) (o : Operand) → why_one d (only r []) o ≡ cond (eqb o.kind 0) (cond (register_is d r (bytes_of o.text)) 0 23) 23
-    alone r o = rw (whole d o r []) (way (eqb o.kind 1))
+    alone : (r : Registers) (o : Operand) → why_one (only r []) o ≡ cond (eqb o.kind 0) (cond (register_is r (bytes_of o.text)) 0 23) 23
+    alone r o = rw (whole o r []) (way (eqb o.kind 1))
       where
-        way : (m : Bool) → ◌≡◌ {A = ℕ} (cond (eqb o.kind 0) (cond (register_is d r (bytes_of o.text)) 0 23) (cond m 23 23)) (cond (eqb o.kind 0) (cond (register_is d r (bytes_of o.text)) 0 23) 23)
+        way : (m : Bool) → ◌≡◌ {A = ℕ} (cond (eqb o.kind 0) (cond (register_is r (bytes_of o.text)) 0 23) (cond m 23 23)) (cond (eqb o.kind 0) (cond (register_is r (bytes_of o.text)) 0 23) 23)
         way true = refl
         way false = refl

@@ -11,7 +11,6 @@ use Rattle.texts.specs.Bytes.{all, bytes_of}
 use Rattle.texts.specs.Letters.{trim_of, same_letters}
 use Rattle.forms.specs.declared.Operand.{Operand}
 use Rattle.forms.specs.declared.Instruction.{Instruction}
-use Rattle.forms.specs.declared.Settings.{Settings}
 use Rattle.forms.specs.declared.One.{One}
 use Rattle.forms.specs.declared.One.TheVariants as one_of_lem
 use Rattle.forms.specs.declared.Shape.{Shape}
@@ -115,12 +114,12 @@ module _ (n : ℕ) where
   missing-none e true ls h = rw e h
   missing-none e false ls h = h
 
-module _ (d : ℕ) (os : List Operand) where
+module _ (os : List Operand) where
   -- the detail from the lists that are taken
   pub why_in : List (List Takes) → ℕ → ℕ
   why_in ls n =
       cond (none_long n ls) 22
-      (cond (some_off (kind_off d) 0 (long_in n ls) os) 23
+      (cond (some_off kind_off 0 (long_in n ls) os) 23
       (cond (some_off address_off 0 (long_in n ls) os) 24
       (cond (some_off width_off 0 (long_in n ls) os) 25
       0)))
@@ -135,7 +134,7 @@ module _ (d : ℕ) (os : List Operand) where
   past-none true ls = (refl, refl)
   past-none false ls = (refl, refl)
 
-  with-one : (o : One) (t : Two) → why_in (one_lists o (two_lists t)) 1 ≡ why_only d o (get_or os 0 no_operand)
+  with-one : (o : One) (t : Two) → why_in (one_lists o (two_lists t)) 1 ≡ why_only o (get_or os 0 no_operand)
   unfolding why_in one_lists why_only why_one kind_off address_off width_off
   with-one one_of_lem.Nothing t = rw (missing-two 1 refl t)
   with-one one_of_lem.Place t = refl
@@ -151,7 +150,7 @@ module _ (d : ℕ) (os : List Operand) where
   past_one (one_of_lem.Memory ws) ls = refl
   past_one (one_of_lem.AxOr ws) ls = refl
 
-  with_two : (t : Two) → why_in (two_lists t) 2 ≡ why_pair d t (get_or os 0 no_operand) (get_or os 1 no_operand)
+  with_two : (t : Two) → why_in (two_lists t) 2 ≡ why_pair t (get_or os 0 no_operand) (get_or os 1 no_operand)
   unfolding why_in two_lists why_pair why_one why_two kind_off address_off width_off
   with_two two-of.Nothing = refl
   with_two two-of.Second = refl
@@ -163,7 +162,7 @@ module _ (d : ℕ) (os : List Operand) where
     pub Counted : ℕ → Type 0
     Counted n =
         why_in (alone_lists a (one_lists o (two_lists t))) n
-        ≡ cond (eqb n 0) (alone_of a) (cond (eqb n 1) (why_only d o (get_or os 0 no_operand)) (cond (eqb n 2) (why_pair d t (get_or os 0 no_operand) (get_or os 1 no_operand)) 22))
+        ≡ cond (eqb n 0) (alone_of a) (cond (eqb n 1) (why_only o (get_or os 0 no_operand)) (cond (eqb n 2) (why_pair t (get_or os 0 no_operand) (get_or os 1 no_operand)) 22))
 
     with-more : (n : ℕ) → eqb n 0 ≡ false → eqb n 1 ≡ false → eqb n 2 ≡ false → Counted n
     unfolding Counted why_in
@@ -178,13 +177,13 @@ module _ (d : ℕ) (os : List Operand) where
         with-more n
 
 -- THE DETAIL BY THE SHAPE
-pub by_shape : (set : Settings) (i : Instruction) → why_of set i ≡ why_by set.dialect (shape_of (family_of (bytes_of i.mnemonic))) i.count i.operands
+pub by_shape : (i : Instruction) → why_of i ≡ why_by (shape_of (family_of (bytes_of i.mnemonic))) i.count i.operands
 unfolding why_of unknown_name wrong_count wrong_kind unknown_address wrong_width why_by family_of why_in Counted taken_by
-by_shape set i =
+by_shape i =
     let s = trim_of (bytes_of i.mnemonic) in
     let f = shape_of (find s names) in
     rw (table_is, lists-found s names, unknown-found s names names-known)
-    (known f.known _ _ ∙ (λ j. cond f.known (counted set.dialect i.operands f.alone f.one f.two i.count j) 21))
+    (known f.known _ _ ∙ (λ j. cond f.known (counted i.operands f.alone f.one f.two i.count j) 21))
   where
     known : (t : Bool) (x y : ℕ) → cond (not t) x y ≡ cond t y x
     known true x y = refl

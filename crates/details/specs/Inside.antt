@@ -1,5 +1,5 @@
 -- How the code finds the detail: by the name's shape and the number of operands. No public promise rests on this.
-use Rattle.std.specs.Prelude.{◌≡◌, Bool, true, false, cond, ◌||◌, List, ℕ, eqb, get_or}
+use Rattle.std.specs.Prelude.{Bool, true, false, cond, ◌||◌, List, ℕ, eqb, get_or}
 use Rattle.forms.specs.declared.Operand.{Operand}
 use Rattle.forms.specs.declared.One.{One}
 use Rattle.forms.specs.declared.One.TheVariants as one
@@ -10,17 +10,13 @@ use Rattle.forms.specs.Operands.{widths_of, no_operand}
 use Rattle.details.specs.Takes.{Takes, place, st0, memory, place-or, ax-or}
 use Rattle.details.specs.Why.{kind_off, address_off, width_off}
 
--- the detail of one operand, and of two, in dialect d
-unfoldable pub why_one : ℕ → Takes → Operand → ℕ
-why_one d t o = cond (kind_off d t o) 23 (cond (address_off t o) 24 (cond (width_off t o) 25 0))
+-- the detail of one operand, and of two
+unfoldable pub why_one : Takes → Operand → ℕ
+why_one t o = cond (kind_off t o) 23 (cond (address_off t o) 24 (cond (width_off t o) 25 0))
 
--- .. where it is one and the same in every dialect
-abbrev pub WhyAny : Takes → Operand → ℕ → Type 0
-WhyAny t o r = (d : ℕ) → r ≡ why_one d t o
-
-unfoldable pub why_two : ℕ → Takes → Takes → Operand → Operand → ℕ
-why_two d t u a b =
-    cond (kind_off d t a || kind_off d u b) 23
+unfoldable pub why_two : Takes → Takes → Operand → Operand → ℕ
+why_two t u a b =
+    cond (kind_off t a || kind_off u b) 23
     (cond (address_off t a || address_off u b) 24
     (cond (width_off t a || width_off u b) 25
     0))
@@ -39,25 +35,25 @@ alone_of true = 0
 alone_of false = 22
 
 -- with one
-unfoldable pub why_only : ℕ → One → Operand → ℕ
-why_only d one.Nothing o = 22
-why_only d one.Place o = why_one d place o
-why_only d (one.PlaceOr ws) o = why_one d (place-or (widths_of ws)) o
-why_only d (one.Memory ws) o = why_one d (memory (widths_of ws)) o
-why_only d (one.AxOr ws) o = why_one d (ax-or (widths_of ws)) o
+unfoldable pub why_only : One → Operand → ℕ
+why_only one.Nothing o = 22
+why_only one.Place o = why_one place o
+why_only (one.PlaceOr ws) o = why_one (place-or (widths_of ws)) o
+why_only (one.Memory ws) o = why_one (memory (widths_of ws)) o
+why_only (one.AxOr ws) o = why_one (ax-or (widths_of ws)) o
 
 -- with two
-unfoldable pub why_pair : ℕ → Two → Operand → Operand → ℕ
-why_pair d two.Nothing a b = 22
-why_pair d two.Second a b = why_one d place b
-why_pair d two.TopAnd a b = why_two d st0 place a b
-why_pair d two.Places a b = why_two d place place a b
+unfoldable pub why_pair : Two → Operand → Operand → ℕ
+why_pair two.Nothing a b = 22
+why_pair two.Second a b = why_one place b
+why_pair two.TopAnd a b = why_two st0 place a b
+why_pair two.Places a b = why_two place place a b
 
-unfoldable pub why_by : ℕ → Shape → ℕ → List Operand → ℕ
-why_by d f n os =
+unfoldable pub why_by : Shape → ℕ → List Operand → ℕ
+why_by f n os =
     cond f.known
     (cond (eqb n 0) (alone_of f.alone)
-    (cond (eqb n 1) (why_only d f.one (get_or os 0 no_operand))
-    (cond (eqb n 2) (why_pair d f.two (get_or os 0 no_operand) (get_or os 1 no_operand))
+    (cond (eqb n 1) (why_only f.one (get_or os 0 no_operand))
+    (cond (eqb n 2) (why_pair f.two (get_or os 0 no_operand) (get_or os 1 no_operand))
     22)))
     21

@@ -7,9 +7,8 @@ use Rattle.texts.specs.declared.Place.{Place}
 use Rattle.texts.specs.declared.Place.TheVariants.{At, Nowhere}
 use Rattle.forms.specs.declared.Operand.{Operand}
 use Rattle.forms.specs.declared.Instruction.{Instruction}
-use Rattle.forms.specs.declared.Settings.{Settings}
 use Rattle.forms.specs.declared.Classified.{Classified}
-use Rattle.forms.specs.declared.Classified.TheVariants.{Modelled, Declined, Refused}
+use Rattle.forms.specs.declared.Classified.TheVariants.{Modelled, Declined, BadText, BadOperands}
 use Rattle.forms.specs.Operands.{ax_of, among, no_operand}
 use Rattle.details.specs.Takes.{Registers, no_register, places, st0-alone, ax-alone, Takes, anything, only, Row, table}
 
@@ -49,21 +48,21 @@ abbrev pub top_is : Place → Bool
 top_is (At k) = eqb k 0
 top_is Nowhere = false
 
--- a register of this text is one of these, in dialect d
-abbrev pub register_is : ℕ → Registers → List ℕ → Bool
-register_is d no_register s = false
-register_is d places s = place_is (place_of d s)
-register_is d st0-alone s = top_is (place_of d s)
-register_is d ax-alone s = ax_of s
+-- a register of this text is one of these
+abbrev pub register_is : Registers → List ℕ → Bool
+register_is no_register s = false
+register_is places s = place_is (place_of s)
+register_is st0-alone s = top_is (place_of s)
+register_is ax-alone s = ax_of s
 
 abbrev pub empty_is : List ℕ → Bool
 empty_is [] = true
 empty_is (w ∷ ws) = false
 
 -- an operand of the wrong kind: a register (kind 0) that is not taken, memory (kind 1) where none is, or neither of them
-unfoldable pub kind_off : ℕ → Takes → Operand → Bool
-kind_off d anything o = false
-kind_off d (only rs ws) o = cond (eqb o.kind 0) (not (register_is d rs (bytes_of o.text))) (cond (eqb o.kind 1) (empty_is ws) true)
+unfoldable pub kind_off : Takes → Operand → Bool
+kind_off anything o = false
+kind_off (only rs ws) o = cond (eqb o.kind 0) (not (register_is rs (bytes_of o.text))) (cond (eqb o.kind 1) (empty_is ws) true)
 
 -- memory whose address is not known
 unfoldable pub address_off : Takes → Operand → Bool
@@ -94,8 +93,8 @@ unfoldable pub wrong_count : Instruction → Bool
 wrong_count i = none_long i.count (lists_of i)
 
 -- 23: AN OPERAND OF THE WRONG KIND, a register text that the name does not take, or a place other than st(0) where only that is taken
-unfoldable pub wrong_kind : Settings → Instruction → Bool
-wrong_kind s i = operand_off (kind_off s.dialect) i
+unfoldable pub wrong_kind : Instruction → Bool
+wrong_kind i = operand_off kind_off i
 
 -- 24: ADDRESS UNKNOWN
 unfoldable pub unknown_address : Instruction → Bool
@@ -106,25 +105,26 @@ unfoldable pub wrong_width : Instruction → Bool
 wrong_width i = operand_off width_off i
 
 -- THE DETAIL OF A DECLINE is the first that holds, in rising order; 0 where none does
-unfoldable pub why_of : Settings → Instruction → ℕ
-why_of s i =
+unfoldable pub why_of : Instruction → ℕ
+why_of i =
     cond (unknown_name i) 21
     (cond (wrong_count i) 22
-    (cond (wrong_kind s i) 23
+    (cond (wrong_kind i) 23
     (cond (unknown_address i) 24
     (cond (wrong_width i) 25
     0))))
 
 -- THE DETAIL BESIDE AN ANSWER OF `classify`: that of a decline, and 0 of any other
-unfoldable pub detail_for : Classified → Settings → Instruction → ℕ
-detail_for (Modelled form) s i = 0
-detail_for Declined s i = why_of s i
-detail_for (Refused r) s i = 0
+unfoldable pub detail_for : Classified → Instruction → ℕ
+detail_for (Modelled form) i = 0
+detail_for Declined i = why_of i
+detail_for BadText i = 0
+detail_for BadOperands i = 0
 
 -- a detail stands beside answer 1 alone
 abbrev pub beside_of : ℕ → ℕ → ℕ
 beside_of answer detail = cond (eqb answer 1) detail 0
 
 -- WHAT IS GIVEN BESIDE AN ANSWER'S NUMBER: the detail beside 1, and 0 beside every other
-unfoldable pub detail_of : ℕ → Settings → Instruction → ℕ
-detail_of answer s i = beside_of answer (why_of s i)
+unfoldable pub detail_of : ℕ → Instruction → ℕ
+detail_of answer i = beside_of answer (why_of i)

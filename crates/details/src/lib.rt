@@ -3,9 +3,9 @@ ghost use Rattle.std.specs.Prelude.{◌≡◌, take};
 ghost use Rattle.forms.specs.Operands.{widths_of};
 ghost use Rattle.details.specs.Takes as takes;
 ghost use Rattle.details.specs.Why.{why_of, detail_for, beside_of};
-ghost use Rattle.details.specs.Inside.{why_one, WhyAny, memory_why, both_of, alone_of, why_only, why_pair, why_by};
+ghost use Rattle.details.specs.Inside.{why_one, memory_why, both_of, alone_of, why_only, why_pair, why_by};
 
-use forms::{Classified, Instruction, One, Operand, Settings, Shape, Two, Widths};
+use forms::{Classified, Instruction, One, Operand, Shape, Two, Widths};
 use texts::Place;
 
 // The details, in the order in which they are tested.
@@ -20,20 +20,20 @@ const UNKNOWN_ADDRESS: u32 = 24;
 const WRONG_WIDTH: u32 = 25;
 
 // A place is taken.
-fn place(o: Operand, settings: Settings) -> u32
-    ensures { result ≡ why_one settings.dialect takes.place o }
+fn place(o: Operand) -> u32
+    ensures { result ≡ why_one takes.place o }
 {
-    let Place::At(_) = forms::families::slot_index(o, settings.dialect) else {
+    let Place::At(_) = forms::families::slot_index(o) else {
         return WRONG_KIND;
     };
     0
 }
 
 // The place 0 alone is taken.
-fn top(o: Operand, settings: Settings) -> u32
-    ensures { result ≡ why_one settings.dialect takes.st0 o }
+fn top(o: Operand) -> u32
+    ensures { result ≡ why_one takes.st0 o }
 {
-    let Place::At(index) = forms::families::slot_index(o, settings.dialect) else {
+    let Place::At(index) = forms::families::slot_index(o) else {
         return WRONG_KIND;
     };
     if index == 0 {
@@ -55,9 +55,9 @@ fn memory_detail(known: bool, taken: bool) -> u32
     UNKNOWN_ADDRESS
 }
 
-// Memory of a table's widths is taken, in any dialect.
+// Memory of a table's widths is taken.
 fn memory(o: Operand, widths: Widths) -> u32
-    ensures { WhyAny (takes.memory (widths_of widths)) o result }
+    ensures { result ≡ why_one (takes.memory (widths_of widths)) o }
 {
     if o.kind == 1 {
         return memory_detail(o.known == 1, forms::families::takes(widths, o.width));
@@ -66,11 +66,11 @@ fn memory(o: Operand, widths: Widths) -> u32
 }
 
 // A place is taken, or memory.
-fn place_or(o: Operand, widths: Widths, settings: Settings) -> u32
-    ensures { result ≡ why_one settings.dialect (takes.place-or (widths_of widths)) o }
+fn place_or(o: Operand, widths: Widths) -> u32
+    ensures { result ≡ why_one (takes.place-or (widths_of widths)) o }
 {
     if o.kind == 0 {
-        return place(o, settings);
+        return place(o);
     }
     memory(o, widths)
 }
@@ -85,9 +85,9 @@ fn first(s: &[u8], n: usize) -> &[u8]
     s
 }
 
-// The register `ax` is taken, or memory, in any dialect.
+// The register `ax` is taken, or memory.
 fn ax_or(o: Operand, widths: Widths) -> u32
-    ensures { WhyAny (takes.ax-or (widths_of widths)) o result }
+    ensures { result ≡ why_one (takes.ax-or (widths_of widths)) o }
 {
     if o.kind == 0 {
         let t = o.text;
@@ -108,13 +108,13 @@ fn counted(there: bool) -> u32
 }
 
 // A name with one operand.
-fn only(one: One, o: Operand, settings: Settings) -> u32
-    ensures { result ≡ why_only settings.dialect one o }
+fn only(one: One, o: Operand) -> u32
+    ensures { result ≡ why_only one o }
 {
     match one {
         One::Nothing => WRONG_COUNT,
-        One::Place => place(o, settings),
-        One::PlaceOr(widths) => place_or(o, widths, settings),
+        One::Place => place(o),
+        One::PlaceOr(widths) => place_or(o, widths),
         One::Memory(widths) => memory(o, widths),
         One::AxOr(widths) => ax_or(o, widths),
     }
@@ -131,20 +131,20 @@ fn both(a: u32, b: u32) -> u32
 }
 
 // A name with two operands.
-fn pair(two: Two, a: Operand, b: Operand, settings: Settings) -> u32
-    ensures { result ≡ why_pair settings.dialect two a b }
+fn pair(two: Two, a: Operand, b: Operand) -> u32
+    ensures { result ≡ why_pair two a b }
 {
     match two {
         Two::Nothing => WRONG_COUNT,
-        Two::Second => place(b, settings),
-        Two::TopAnd => both(top(a, settings), place(b, settings)),
-        Two::Places => both(place(a, settings), place(b, settings)),
+        Two::Second => place(b),
+        Two::TopAnd => both(top(a), place(b)),
+        Two::Places => both(place(a), place(b)),
     }
 }
 
 // A name of this shape with so many of these operands.
-fn among(shape: Shape, ops: [Operand; 3], count: usize, settings: Settings) -> u32
-    ensures { result ≡ why_by settings.dialect shape count ops }
+fn among(shape: Shape, ops: [Operand; 3], count: usize) -> u32
+    ensures { result ≡ why_by shape count ops }
 {
     let one = shape.one;
     let two = shape.two;
@@ -155,10 +155,10 @@ fn among(shape: Shape, ops: [Operand; 3], count: usize, settings: Settings) -> u
             return counted(shape.alone);
         }
         if count == 1 {
-            return only(one, a, settings);
+            return only(one, a);
         }
         if count == 2 {
-            return pair(two, a, b, settings);
+            return pair(two, a, b);
         }
         return WRONG_COUNT;
     }
@@ -166,28 +166,24 @@ fn among(shape: Shape, ops: [Operand; 3], count: usize, settings: Settings) -> u
 }
 
 // The detail of an instruction: the first that holds of 21 unknown name, 22 wrong number of operands, 23 an operand of the wrong kind, 24 address unknown, 25 width not taken; 0 where none does.
-pub fn why(settings: Settings, insn: Instruction) -> u32
-    ensures { result ≡ why_of settings insn }
+pub fn why(insn: Instruction) -> u32
+    ensures { result ≡ why_of insn }
 {
     let ops = insn.operands;
     let m = insn.mnemonic;
     let b = m.bytes;
-    among(
-        forms::names::shape(first(&b, m.len)),
-        ops,
-        insn.count,
-        settings,
-    )
+    among(forms::names::shape(first(&b, m.len)), ops, insn.count)
 }
 
 // The detail beside an answer of `classify`: that of a decline, and 0 of any other. Only after a decline it is worked out.
-pub fn detail(classified: Classified, settings: Settings, insn: Instruction) -> u32
-    ensures { result ≡ detail_for classified settings insn }
+pub fn detail(classified: Classified, insn: Instruction) -> u32
+    ensures { result ≡ detail_for classified insn }
 {
     match classified {
         Classified::Modelled(_) => 0,
-        Classified::Declined => why(settings, insn),
-        Classified::Refused(_) => 0,
+        Classified::Declined => why(insn),
+        Classified::BadText => 0,
+        Classified::BadOperands => 0,
     }
 }
 

@@ -1,12 +1,9 @@
 -- A call that tells its words, and one that has no room to.
 use mathlib.Core.Path.{◌≡◌}
-use mathlib.Core.Bool.{true, ◌&&◌}
 use mathlib.Core.List.{List}
 use Prim.Native.Nat.{ℕ, ◌<◌, ◌≤◌}
-use lib.Dec.{leb}
 use lib.ListN.{length}
-use borrow.Author.Tests.{le-leb, lt-leb, leb-true}
-use Rattle.words.specs.Tests.{and_l, and_r}
+use borrow.Author.Tests.{le-leb, lt-leb}
 use Rattle.export.specs.Flat.{laid}
 use Rattle.export.specs.Answers.{Said, Tells}
 
@@ -16,7 +13,3 @@ module _ (k : ℕ) (x : Said) (out : List ℕ) where
 
   pub untold : length out < k → Tells k x out 10 out
   untold h = record { answer = rw (lt-leb _ _ h); told = rw (lt-leb _ _ h) }
-
--- two slices that are both long enough
-pub both-there : (j k a b : ℕ) → (leb j a && leb k b) ≡ true → (j ≤ a) × (k ≤ b)
-both-there j k a b h = (leb-true j a (and_l (leb j a) (leb k b) h), leb-true k b (and_r (leb j a) (leb k b) h))

@@ -1,6 +1,6 @@
 -- What the lifter and the state's words come to, joined.
 use mathlib.Core.Path.{◌≡◌, refl, ap, ◌∙◌}
-use mathlib.Core.Bool.{Bool, true, false, cond, ◌&&◌, true≢false, false≢true}
+use mathlib.Core.Bool.{Bool, true, false, cond, true≢false, false≢true}
 use mathlib.Core.List.{List, [], ◌∷◌}
 use Prim.Native.Nat.{ℕ, ◌≤◌, ◌<◌}
 use lib.Dec.{leb}
@@ -9,7 +9,6 @@ use borrow.Author.Tests.{le-leb, lt-leb}
 use Rattle.texts.specs.Bytes.{all}
 use Rattle.lists.specs.declared.State.{State}
 use Rattle.forms.specs.declared.Instruction.{Instruction}
-use Rattle.forms.specs.declared.Settings.{Settings}
 use Rattle.records.specs.Numbers.{record_is, number_of, place_of}
 use Rattle.records.specs.declared.Taken.{Taken}
 use Rattle.records.specs.declared.Outcome.{Outcome}
@@ -22,7 +21,7 @@ use Rattle.memory.specs.Site.{site_of}
 use Rattle.details.specs.Why.{detail_for, beside_of}
 use Rattle.lifter.specs.Lift.{placed_of}
 use Rattle.lifter.proofs.Answers.{lift-told, placed-lift}
-use Rattle.export.specs.Flat.{insn_of, settings_in, asked, all_set, at_least, laid}
+use Rattle.export.specs.Flat.{insn_of, laid}
 use Rattle.export.specs.Lifts.{Lifted, Lifts, told, placed_in, lifted_in, lifted_of, unchanged, small_is, state_in, kept_if}
 use Rattle.export.specs.Steps.{Steps, called_of, step_of, stepped_of, told_of}
 use Rattle.export.proofs.Calls.{tells, untold}
@@ -52,67 +51,67 @@ module _ (c : Classified) (d : ℕ) (site : Site) (s n t : List ℕ) where
 abbrev pub Given : Lifted → ℕ → ℕ → List ℕ → List ℕ → List ℕ → Type 0
 Given x r d s n t = Lifts x r s n t × (d ≡ x.detail)
 
-module _ (set : Settings) (i : Instruction) (s n t : List ℕ) where
-  placed-in : placed_in (classify_of set i) (detail_for (classify_of set i) set i) (site_of i) s n t ≡ lifted_in set i s n t
+module _ (i : Instruction) (s n t : List ℕ) where
+  placed-in : placed_in (classify_of i) (detail_for (classify_of i) i) (site_of i) s n t ≡ lifted_in i s n t
   unfolding lifted_in
-  placed-in = rw (placed-lift (state_in s) n t set i, lift-told (state_in s) n t set i)
+  placed-in = rw (placed-lift (state_in s) n t i, lift-told (state_in s) n t i)
 
   -- an instruction that is classified first
-  pub gives : (c : Classified) (d : ℕ) (site : Site) → c ≡ classify_of set i → d ≡ detail_for c set i → site ≡ site_of i → (r w : ℕ) (s' n' t' : List ℕ)
-      → Lifts (placed_in c d site s n t) r s' n' t' → w ≡ beside_of r d → Given (lifted_in set i s n t) r w s' n' t'
+  pub gives : (c : Classified) (d : ℕ) (site : Site) → c ≡ classify_of i → d ≡ detail_for c i → site ≡ site_of i → (r w : ℕ) (s' n' t' : List ℕ)
+      → Lifts (placed_in c d site s n t) r s' n' t' → w ≡ beside_of r d → Given (lifted_in i s n t) r w s' n' t'
   gives c d site p q e r w s' n' t' l b =
-      let x = ap (λ (c : Classified). placed_in c (detail_for c set i) (site_of i) s n t) p ∙ placed-in in
+      let x = ap (λ (c : Classified). placed_in c (detail_for c i) (site_of i) s n t) p ∙ placed-in in
       rw (← x, ← e, ← q) (l, b ∙ rw l.answer (placed-detail c d site s n t))
 
 -- an instruction's bytes: lifted, or too few of them or of the state's words; and too few words to tell
-module _ (b f s n t out : List ℕ) where
-  pub from-flat : 1 ≤ length out → asked b f ≡ true → 13 ≤ length s → (set : Settings) (i : Instruction) (r d : ℕ) (s' n' t' left : List ℕ) → set ≡ settings_in b → i ≡ insn_of f
-      → Given (lifted_in set i s n t) r d s' n' t' → left ≡ laid out 0 (d ∷ []) → Steps 1 (called_of b f s n t) s n t out r s' n' t' left
+module _ (f s n t out : List ℕ) where
+  pub from-flat : 1 ≤ length out → 177 ≤ length f → 13 ≤ length s → (i : Instruction) (r d : ℕ) (s' n' t' left : List ℕ) → i ≡ insn_of f
+      → Given (lifted_in i s n t) r d s' n' t' → left ≡ laid out 0 (d ∷ []) → Steps 1 (called_of f s n t) s n t out r s' n' t' left
   unfolding called_of lifted_of
-  from-flat k h l set i r d s' n' t' left e e' g w =
-      rw (h, le-leb _ _ l, ← e, ← e') (record { told = tells _ _ _ k g.0.answer (rw (← g.1) w); lifts = rw (le-leb _ _ k) g.0 })
+  from-flat k h l i r d s' n' t' left e g w =
+      rw (le-leb _ _ h, le-leb _ _ l, ← e) (record { told = tells _ _ _ k g.0.answer (rw (← g.1) w); lifts = rw (le-leb _ _ k) g.0 })
 
-  pub short-state : 1 ≤ length out → asked b f ≡ true → length s < 13 → (left : List ℕ) → left ≡ laid out 0 (0 ∷ []) → Steps 1 (called_of b f s n t) s n t out 10 s n t left
+  pub short-state : 1 ≤ length out → 177 ≤ length f → length s < 13 → (left : List ℕ) → left ≡ laid out 0 (0 ∷ []) → Steps 1 (called_of f s n t) s n t out 10 s n t left
   unfolding called_of lifted_of
-  short-state k h l left w = rw (h, lt-leb _ _ l) (record { told = tells _ _ _ k refl w; lifts = rw (le-leb _ _ k) (stays 10 s n t) })
+  short-state k h l left w = rw (le-leb _ _ h, lt-leb _ _ l) (record { told = tells _ _ _ k refl w; lifts = rw (le-leb _ _ k) (stays 10 s n t) })
 
-  pub not-asked : 1 ≤ length out → asked b f ≡ false → (left : List ℕ) → left ≡ laid out 0 (0 ∷ []) → Steps 1 (called_of b f s n t) s n t out 10 s n t left
+  pub short-flat : 1 ≤ length out → length f < 177 → (left : List ℕ) → left ≡ laid out 0 (0 ∷ []) → Steps 1 (called_of f s n t) s n t out 10 s n t left
   unfolding called_of lifted_of
-  not-asked k h left w = rw h (record { told = tells _ _ _ k refl w; lifts = rw (le-leb _ _ k) (stays 10 s n t) })
+  short-flat k h left w = rw (lt-leb _ _ h) (record { told = tells _ _ _ k refl w; lifts = rw (le-leb _ _ k) (stays 10 s n t) })
 
-  pub few_words : length out < 1 → Steps 1 (called_of b f s n t) s n t out 10 s n t out
+  pub few_words : length out < 1 → Steps 1 (called_of f s n t) s n t out 10 s n t out
   few_words k = record { told = untold _ _ _ k; lifts = rw (lt-leb _ _ k) (stays 10 s n t) }
 
 -- one record: lifted, or not there to be lifted
-module _ (set : Settings) (i : Instruction) (at : ℕ) (s n t out : List ℕ) (room : 3 ≤ length out) where
-  lifted : (o : Outcome) (r d : ℕ) (s' n' t' left : List ℕ) → record_is o ≡ true → Given (lifted_in set i s n t) r d s' n' t'
-      → left ≡ laid out 0 (told_of r d (place_of o) at) → Steps 3 (step_of set o i at s n t) s n t out r s' n' t' left
+module _ (i : Instruction) (at : ℕ) (s n t out : List ℕ) (room : 3 ≤ length out) where
+  lifted : (o : Outcome) (r d : ℕ) (s' n' t' left : List ℕ) → record_is o ≡ true → Given (lifted_in i s n t) r d s' n' t'
+      → left ≡ laid out 0 (told_of r d (place_of o) at) → Steps 3 (step_of o i at s n t) s n t out r s' n' t' left
   unfolding step_of
   lifted (Record c) r d s' n' t' left e g w = record { told = tells _ _ _ room g.0.answer (rw (← g.0.answer, ← g.1) w); lifts = rw (le-leb _ _ room) g.0 }
   lifted (End c) r d s' n' t' left e g w = absurd (false≢true e)
   lifted (Refused x p) r d s' n' t' left e g w = absurd (false≢true e)
 
   quiet : (o : Outcome) (r : ℕ) (left : List ℕ) → record_is o ≡ false → r ≡ number_of o → left ≡ laid out 0 (place_of o ∷ 0 ∷ 0 ∷ [])
-      → Steps 3 (step_of set o i at s n t) s n t out r s n t left
+      → Steps 3 (step_of o i at s n t) s n t out r s n t left
   unfolding step_of
   quiet (Record c) r left e d w = absurd (true≢false e)
   quiet (End c) r left e d w = record { told = tells _ _ _ room d w; lifts = rw (le-leb _ _ room, d) (stays 0 s n t) }
   quiet (Refused x p) r left e d w = record { told = tells _ _ _ room d w; lifts = rw (le-leb _ _ room, d) (stays _ s n t) }
 
-module _ (b : List ℕ) (x : Taken) (at : ℕ) (s n t out : List ℕ) where
-  pub steps_on : 3 ≤ length out → 1 ≤ length b → 13 ≤ length s → (set : Settings) → set ≡ settings_in b → (r d : ℕ) (s' n' t' left : List ℕ) → record_is x.outcome ≡ true → Given (lifted_in set x.insn s n t) r d s' n' t'
-      → left ≡ laid out 0 (told_of r d (place_of x.outcome) at) → Steps 3 (stepped_of b x at s n t) s n t out r s' n' t' left
+module _ (x : Taken) (at : ℕ) (s n t out : List ℕ) where
+  pub steps_on : 3 ≤ length out → 13 ≤ length s → (r d : ℕ) (s' n' t' left : List ℕ) → record_is x.outcome ≡ true → Given (lifted_in x.insn s n t) r d s' n' t'
+      → left ≡ laid out 0 (told_of r d (place_of x.outcome) at) → Steps 3 (stepped_of x at s n t) s n t out r s' n' t' left
   unfolding stepped_of
-  steps_on k a h set e r d s' n' t' left o g w = rw (le-leb _ _ a, le-leb _ _ h, ← e) (lifted set x.insn at s n t out k x.outcome r d s' n' t' left o g w)
+  steps_on k h r d s' n' t' left e g w = rw (le-leb _ _ h) (lifted x.insn at s n t out k x.outcome r d s' n' t' left e g w)
 
-  pub stops : 3 ≤ length out → 1 ≤ length b → 13 ≤ length s → (r : ℕ) (left : List ℕ) → record_is x.outcome ≡ false → r ≡ number_of x.outcome
-      → left ≡ laid out 0 (place_of x.outcome ∷ 0 ∷ 0 ∷ []) → Steps 3 (stepped_of b x at s n t) s n t out r s n t left
+  pub stops : 3 ≤ length out → 13 ≤ length s → (r : ℕ) (left : List ℕ) → record_is x.outcome ≡ false → r ≡ number_of x.outcome
+      → left ≡ laid out 0 (place_of x.outcome ∷ 0 ∷ 0 ∷ []) → Steps 3 (stepped_of x at s n t) s n t out r s n t left
   unfolding stepped_of
-  stops k a h r left e d w = rw (le-leb _ _ a, le-leb _ _ h) (quiet (settings_in b) x.insn at s n t out k x.outcome r left e d w)
+  stops k h r left e d w = rw (le-leb _ _ h) (quiet x.insn at s n t out k x.outcome r left e d w)
 
-  pub too_few : 3 ≤ length out → (all_set b && at_least 13 s) ≡ false → (left : List ℕ) → left ≡ laid out 0 (0 ∷ 0 ∷ 0 ∷ []) → Steps 3 (stepped_of b x at s n t) s n t out 10 s n t left
+  pub few-state : 3 ≤ length out → length s < 13 → (left : List ℕ) → left ≡ laid out 0 (0 ∷ 0 ∷ 0 ∷ []) → Steps 3 (stepped_of x at s n t) s n t out 10 s n t left
   unfolding stepped_of
-  too_few k h left w = rw h (record { told = tells _ _ _ k refl w; lifts = rw (le-leb _ _ k) (stays 10 s n t) })
+  few-state k h left w = rw (lt-leb _ _ h) (record { told = tells _ _ _ k refl w; lifts = rw (le-leb _ _ k) (stays 10 s n t) })
 
-  pub few-told : length out < 3 → Steps 3 (stepped_of b x at s n t) s n t out 10 s n t out
+  pub few-told : length out < 3 → Steps 3 (stepped_of x at s n t) s n t out 10 s n t out
   few-told k = record { told = untold _ _ _ k; lifts = rw (lt-leb _ _ k) (stays 10 s n t) }

@@ -1,15 +1,13 @@
 -- What a call tells beside its answer, and what classify, effect and the reader of records answer and leave.
 use Rattle.std.specs.Prelude.{◌≡◌, Bool, cond, ◌&&◌, List, [], ◌∷◌, ℕ, replicate}
 use Rattle.forms.specs.declared.Instruction.{Instruction}
-use Rattle.forms.specs.declared.Classified.{Classified}
-use Rattle.forms.specs.declared.Affected.{Affected}
 use Rattle.forms.specs.Classify.{classify_of}
 use Rattle.forms.specs.Effects.{effect_of}
 use Rattle.details.specs.Why.{detail_of}
 use Rattle.forms.specs.Numbers.{bit, number_of, fields_of, effect_number, effect_fields}
 use Rattle.records.specs.Numbers as records
 use Rattle.records.specs.declared.Taken.{Taken}
-use Rattle.export.specs.Flat.{insn_of, flat_of, settings_in, asked, laid, at_least}
+use Rattle.export.specs.Flat.{insn_of, flat_of, laid, at_least}
 
 -- a number, and the words beside it: beside a refusal each is 0, but a node or a place that is named
 pub record Said : Type 0 where
@@ -25,35 +23,34 @@ pub record Tells (k : ℕ) (x : Said) (out : List ℕ) (r : ℕ) (left : List �
   pub answer : r ≡ cond (at_least k out) x.number 10
   pub told : left ≡ cond (at_least k out) (laid out 0 x.words) out
 
--- the answers of `classify` and of `x87_effect` to lent settings and a lent instruction
-abbrev pub classified_by : List ℕ → List ℕ → Classified
-classified_by set flat = classify_of (settings_in set) (insn_of flat)
-
-abbrev pub affected_by : List ℕ → List ℕ → Affected
-affected_by set flat = effect_of (settings_in set) (insn_of flat)
-
--- their numbers and words
-unfoldable pub classified : List ℕ → List ℕ → Said
-classified set flat = cond (asked set flat) (record { number = number_of (classified_by set flat); words = fields_of (classified_by set flat) }) (too_short 8)
-
-unfoldable pub affected : List ℕ → List ℕ → Said
-affected set flat = cond (asked set flat) (record { number = effect_number (affected_by set flat); words = effect_fields (affected_by set flat) }) (too_short 7)
+-- the number and the words of an answer of `classify`, and of `x87_effect`
+unfoldable pub classified : List ℕ → Said
+classified flat =
+    cond (at_least 177 flat)
+    (record { number = number_of (classify_of (insn_of flat)); words = fields_of (classify_of (insn_of flat)) })
+    (too_short 8)
 
 -- the number alone, and the detail beside it
-unfoldable pub reasoned : List ℕ → List ℕ → Said
-reasoned set flat =
-    cond (asked set flat)
-    (record { number = number_of (classified_by set flat); words = detail_of (number_of (classified_by set flat)) (settings_in set) (insn_of flat) ∷ [] })
+unfoldable pub reasoned : List ℕ → Said
+reasoned flat =
+    cond (at_least 177 flat)
+    (record { number = number_of (classify_of (insn_of flat)); words = detail_of (number_of (classify_of (insn_of flat))) (insn_of flat) ∷ [] })
     (too_short 1)
 
-abbrev pub Classifies : List ℕ → List ℕ → List ℕ → ℕ → List ℕ → Type 0
-Classifies set flat out = Tells 8 (classified set flat) out
+unfoldable pub affected : List ℕ → Said
+affected flat =
+    cond (at_least 177 flat)
+    (record { number = effect_number (effect_of (insn_of flat)); words = effect_fields (effect_of (insn_of flat)) })
+    (too_short 7)
 
-abbrev pub Reasons : List ℕ → List ℕ → List ℕ → ℕ → List ℕ → Type 0
-Reasons set flat out = Tells 1 (reasoned set flat) out
+abbrev pub Classifies : List ℕ → List ℕ → ℕ → List ℕ → Type 0
+Classifies flat out = Tells 8 (classified flat) out
 
-abbrev pub Affects : List ℕ → List ℕ → List ℕ → ℕ → List ℕ → Type 0
-Affects set flat out = Tells 7 (affected set flat) out
+abbrev pub Reasons : List ℕ → List ℕ → ℕ → List ℕ → Type 0
+Reasons flat out = Tells 1 (reasoned flat) out
+
+abbrev pub Affects : List ℕ → List ℕ → ℕ → List ℕ → Type 0
+Affects flat out = Tells 7 (affected flat) out
 
 -- the number of what stands at a place, its place, and whether a record was read
 unfoldable pub read_into : Taken → List ℕ → Said

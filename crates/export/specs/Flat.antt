@@ -1,12 +1,11 @@
--- The flat layout of settings, a byte each, and of an instruction: 177 bytes, low byte first. Address 0 to 8; mnemonic length at 8, its text 9 to 41; operand count at 41; three operands at 42, 87 and 132.
-use Rattle.std.specs.Prelude.{Bool, ◌&&◌, List, [], ◌∷◌, ◌++◌, ℕ, ◌+◌, leb, length, take, drop, get_or}
+-- The flat layout of an instruction: 177 bytes, low byte first. Address 0 to 8; mnemonic length at 8, its text 9 to 41; operand count at 41; three operands at 42, 87 and 132.
+use Rattle.std.specs.Prelude.{Bool, List, [], ◌∷◌, ◌++◌, ℕ, ◌+◌, leb, length, take, drop, get_or}
 use Rattle.std.proofs.lemmas.List.Edits.{sets}
 use Rattle.words.specs.Bytes.{number_in, bytes_of}
 use Rattle.texts.specs.declared.Text.{Text}
 use Rattle.forms.specs.Operands.{no_operand}
 use Rattle.forms.specs.declared.Operand.{Operand}
 use Rattle.forms.specs.declared.Instruction.{Instruction}
-use Rattle.forms.specs.declared.Settings.{Settings}
 
 -- a length, then 32 bytes
 abbrev pub text_in : List ℕ → ℕ → Text
@@ -37,20 +36,6 @@ insn_of l =
 -- a list has k entries or more
 abbrev pub at_least : ℕ → List ℕ → Bool
 at_least k l = leb k (length l)
-
--- the settings that stand in lent bytes: the dialect; how many there are, and whether all of them are there
-unfoldable pub settings_in : List ℕ → Settings
-settings_in b = record { dialect = get_or b 0 0 }
-
-abbrev pub settings_long : ℕ
-settings_long = 1
-
-abbrev pub all_set : List ℕ → Bool
-all_set b = at_least settings_long b
-
--- the settings and an instruction are there
-abbrev pub asked : List ℕ → List ℕ → Bool
-asked set flat = all_set set && at_least 177 flat
 
 -- a list with vs stored from place i on
 unfoldable pub laid : List ℕ → ℕ → List ℕ → List ℕ

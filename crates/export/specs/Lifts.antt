@@ -5,12 +5,11 @@ use Rattle.lists.specs.Rows.{wrote}
 use Rattle.lists.specs.Steps.{Built}
 use Rattle.lists.specs.declared.State.{State}
 use Rattle.forms.specs.declared.Instruction.{Instruction}
-use Rattle.forms.specs.declared.Settings.{Settings}
 use Rattle.forms.specs.declared.Classified.{Classified}
 use Rattle.memory.specs.declared.Site.{Site}
 use Rattle.details.specs.Why.{beside_of, detail_of}
 use Rattle.lifter.specs.Lift.{placed_of, lift_of}
-use Rattle.export.specs.Flat.{insn_of, settings_in, asked, laid, at_least}
+use Rattle.export.specs.Flat.{insn_of, laid, at_least}
 
 -- a number of 32 bits
 abbrev pub small_is : ℕ → Bool
@@ -63,12 +62,12 @@ told d b s n t =
       statements = wrote t b.ss;
     }
 
-abbrev pub done : Settings → Instruction → Built → List ℕ → List ℕ → List ℕ → Lifted
-done set i b s n t = told (detail_of b.val set i) b s n t
+abbrev pub done : Instruction → Built → List ℕ → List ℕ → List ℕ → Lifted
+done i b s n t = told (detail_of b.val i) b s n t
 
 -- a lift over a state of 13 words: 5 where one of them is no number of 32 bits
-unfoldable pub lifted_in : Settings → Instruction → List ℕ → List ℕ → List ℕ → Lifted
-lifted_in set i s n t = cond (all small_is (take 13 s)) (done set i (lift_of (state_in s) set i n t) s n t) (unchanged 5 s n t)
+unfoldable pub lifted_in : Instruction → List ℕ → List ℕ → List ℕ → Lifted
+lifted_in i s n t = cond (all small_is (take 13 s)) (done i (lift_of (state_in s) i n t) s n t) (unchanged 5 s n t)
 
 -- .. of what `classify` answered, with a detail
 abbrev pub placed_in : Classified → ℕ → Site → List ℕ → List ℕ → List ℕ → Lifted
@@ -76,8 +75,8 @@ placed_in c d site s n t =
     cond (all small_is (take 13 s)) (told (beside_of (placed_of (state_in s) c d site n t).val d) (placed_of (state_in s) c d site n t) s n t) (unchanged 5 s n t)
 
 -- .. of the instruction in the first 177 bytes: 10 where a slice is too short
-unfoldable pub lifted_of : List ℕ → List ℕ → List ℕ → List ℕ → List ℕ → Lifted
-lifted_of set flat s n t = cond (asked set flat && at_least 13 s) (lifted_in (settings_in set) (insn_of flat) s n t) (unchanged 10 s n t)
+unfoldable pub lifted_of : List ℕ → List ℕ → List ℕ → List ℕ → Lifted
+lifted_of flat s n t = cond (at_least 177 flat && at_least 13 s) (lifted_in (insn_of flat) s n t) (unchanged 10 s n t)
 
 -- the answer, and what is left in the lent slices
 pub record Lifts (x : Lifted) (r : ℕ) (s n t : List ℕ) : Type 0 where

@@ -1,12 +1,11 @@
 -- What `x87_lift` and `x87_lift_record` answer, tell and leave: one instruction lifted, from its bytes or from its record.
-use Rattle.std.specs.Prelude.{cond, ◌&&◌, List, [], ◌∷◌, ℕ, leb}
+use Rattle.std.specs.Prelude.{cond, List, [], ◌∷◌, ℕ, leb}
 use Rattle.forms.specs.declared.Instruction.{Instruction}
-use Rattle.forms.specs.declared.Settings.{Settings}
 use Rattle.records.specs.Numbers.{refusal_of}
 use Rattle.records.specs.declared.Taken.{Taken}
 use Rattle.records.specs.declared.Outcome.{Outcome}
 use Rattle.records.specs.declared.Outcome.TheVariants.{Record, End, Refused}
-use Rattle.export.specs.Flat.{settings_in, all_set, at_least}
+use Rattle.export.specs.Flat.{at_least}
 use Rattle.export.specs.Answers.{Said, Tells}
 use Rattle.export.specs.Lifts.{Lifts, Lifted, lifted_in, lifted_of, unchanged}
 
@@ -16,23 +15,23 @@ pub record Stepped : Type 0 where
   pub told : List ℕ
 
 -- an instruction's bytes: the detail is told
-unfoldable pub called_of : List ℕ → List ℕ → List ℕ → List ℕ → List ℕ → Stepped
-called_of set flat s n t = record { lifted = lifted_of set flat s n t; told = (lifted_of set flat s n t).detail ∷ [] }
+unfoldable pub called_of : List ℕ → List ℕ → List ℕ → List ℕ → Stepped
+called_of flat s n t = record { lifted = lifted_of flat s n t; told = (lifted_of flat s n t).detail ∷ [] }
 
 -- a record: the next place, 1 and the detail; where it was refused, the record's own place and zeros
 unfoldable pub told_of : ℕ → ℕ → ℕ → ℕ → List ℕ
 told_of answer detail next at = cond (leb answer 2) (next ∷ 1 ∷ detail ∷ []) (at ∷ 0 ∷ 0 ∷ [])
 
 -- a record is lifted; at the end mark and beside a reader's refusal nothing is
-unfoldable pub step_of : Settings → Outcome → Instruction → ℕ → List ℕ → List ℕ → List ℕ → Stepped
-step_of set (Record c) i at s n t = record { lifted = lifted_in set i s n t; told = told_of (lifted_in set i s n t).answer (lifted_in set i s n t).detail c.at at }
-step_of set (End c) i at s n t = record { lifted = unchanged 0 s n t; told = c.at ∷ 0 ∷ 0 ∷ [] }
-step_of set (Refused r p) i at s n t = record { lifted = unchanged (refusal_of r) s n t; told = p ∷ 0 ∷ 0 ∷ [] }
+unfoldable pub step_of : Outcome → Instruction → ℕ → List ℕ → List ℕ → List ℕ → Stepped
+step_of (Record c) i at s n t = record { lifted = lifted_in i s n t; told = told_of (lifted_in i s n t).answer (lifted_in i s n t).detail c.at at }
+step_of (End c) i at s n t = record { lifted = unchanged 0 s n t; told = c.at ∷ 0 ∷ 0 ∷ [] }
+step_of (Refused r p) i at s n t = record { lifted = unchanged (refusal_of r) s n t; told = p ∷ 0 ∷ 0 ∷ [] }
 
--- 10 and zeros where a setting is not there, or the state has no 13 words
-unfoldable pub stepped_of : List ℕ → Taken → ℕ → List ℕ → List ℕ → List ℕ → Stepped
-stepped_of set x at s n t =
-    cond (all_set set && at_least 13 s) (step_of (settings_in set) x.outcome x.insn at s n t) (record { lifted = unchanged 10 s n t; told = 0 ∷ 0 ∷ 0 ∷ [] })
+-- 10 and zeros where the state has no 13 words
+unfoldable pub stepped_of : Taken → ℕ → List ℕ → List ℕ → List ℕ → Stepped
+stepped_of x at s n t =
+    cond (at_least 13 s) (step_of x.outcome x.insn at s n t) (record { lifted = unchanged 10 s n t; told = 0 ∷ 0 ∷ 0 ∷ [] })
 
 abbrev pub said_of : Stepped → Said
 said_of x = record { number = x.lifted.answer; words = x.told }

@@ -1,9 +1,9 @@
-// The flat layout of settings, a byte each, and of an instruction: 177 bytes, numbers low byte first.
+// The flat layout of an instruction: 177 bytes, numbers low byte first.
 ghost use Rattle.std.specs.Prelude.{◌≡◌, ◌+◌, ◌<◌, ◌≤◌, length, take, drop};
 ghost use Rattle.words.specs.Bytes.{number_in, bytes_of};
-ghost use Rattle.export.specs.Flat.{text_in, operand_in, insn_of, settings_in, laid, text_flat, memory_flat, operand_flat, flat_of};
+ghost use Rattle.export.specs.Flat.{text_in, operand_in, insn_of, laid, text_flat, memory_flat, operand_flat, flat_of};
 
-use forms::{Instruction, Operand, Settings};
+use forms::{Instruction, Operand};
 use texts::Text;
 
 // The number of two bytes at a place; of four; of eight. All 177 bytes are there, so no place is tested, unlike in `words::bytes`.
@@ -70,14 +70,6 @@ fn operand(s: &[u8], at: usize) -> Operand
         address: address as u32,
         slot: slot as u32,
     }
-}
-
-// The settings that stand in the first bytes.
-pub(crate) fn settings(s: &[u8]) -> Settings
-    requires { 1 ≤ length s.now }
-    ensures { result ≡ settings_in s.now }
-{
-    Settings { dialect: s[0] }
 }
 
 // The instruction that stands in the first 177 bytes.

@@ -6,7 +6,7 @@ pub mod values;
 
 ghost use Rattle.std.specs.Prelude.{◌≡◌, ◌≤◌, length, leb};
 ghost use Rattle.records.specs.Format.{taken_at};
-ghost use Rattle.export.specs.Flat.{settings_long, laid};
+ghost use Rattle.export.specs.Flat.{laid};
 ghost use Rattle.export.specs.Lifts.{Lifts, placed_in, kept_if};
 ghost use Rattle.export.specs.Steps.{Steps, called_of, stepped_of, told_of};
 ghost use Rattle.export.specs.Answers.{Classifies, Reasons, Affects, ReadsRecord, wrote_if};
@@ -27,35 +27,26 @@ pub(crate) fn lay(out: &mut [u64], w: &[u64])
     }
 }
 
-// How many settings a call takes, a byte each: who calls it can see that it is the library that was meant.
-#[unsafe(no_mangle)]
-pub extern "C" fn x87_settings() -> u32
-    ensures { result ≡ settings_long }
-{
-    1
-}
-
 // Classifies the instruction in bytes that are there, where there is room to tell.
-fn classify_in(set: &[u8], flat: &[u8], out: &mut [u64]) -> u32
-    requires { (1 ≤ length set.now) × (177 ≤ length flat.now) × (8 ≤ length out.old) }
-    ensures { Classifies set.now flat.now out.old result out.new }
+fn classify_in(flat: &[u8], out: &mut [u64]) -> u32
+    requires { (177 ≤ length flat.now) × (8 ≤ length out.old) }
+    ensures { Classifies flat.now out.old result out.new }
 {
-    let settings = flat::settings(set);
     let insn = flat::read(flat);
-    let answer = forms::classify(settings, insn);
+    let answer = forms::classify(insn);
     let w = answers::fields(answer);
     lay(out, &w);
     answers::number(answer)
 }
 
-// Classifies, by the lent settings, the instruction that stands in the first 177 bytes, and tells its form's eight words.
+// Classifies the instruction that stands in the first 177 bytes, and tells its form's eight words.
 #[unsafe(no_mangle)]
-pub extern "C" fn x87_classify(set: &[u8], flat: &[u8], out: &mut [u64]) -> u32
-    ensures { Classifies set.now flat.now out.old result out.new }
+pub extern "C" fn x87_classify(flat: &[u8], out: &mut [u64]) -> u32
+    ensures { Classifies flat.now out.old result out.new }
 {
     if 8 <= out.len() {
-        if (1 <= set.len()) & (177 <= flat.len()) {
-            return classify_in(set, flat, out);
+        if 177 <= flat.len() {
+            return classify_in(flat, out);
         }
         let none = [0u64; 8];
         lay(out, &none);
@@ -66,16 +57,15 @@ pub extern "C" fn x87_classify(set: &[u8], flat: &[u8], out: &mut [u64]) -> u32
 
 // Tells why the instruction that stands in the first 177 bytes is declined; the answer is that of `x87_classify`.
 #[unsafe(no_mangle)]
-pub extern "C" fn x87_why(set: &[u8], flat: &[u8], out: &mut [u64]) -> u32
-    ensures { Reasons set.now flat.now out.old result out.new }
+pub extern "C" fn x87_why(flat: &[u8], out: &mut [u64]) -> u32
+    ensures { Reasons flat.now out.old result out.new }
 {
     if 1 <= out.len() {
-        if (1 <= set.len()) & (177 <= flat.len()) {
-            let settings = flat::settings(set);
+        if 177 <= flat.len() {
             let insn = flat::read(flat);
-            let answer = answers::number(forms::classify(settings, insn));
+            let answer = answers::number(forms::classify(insn));
             if answer == 1 {
-                out[0] = details::why(settings, insn) as u64;
+                out[0] = details::why(insn) as u64;
                 return 1;
             }
             out[0] = 0;
@@ -88,13 +78,12 @@ pub extern "C" fn x87_why(set: &[u8], flat: &[u8], out: &mut [u64]) -> u32
 }
 
 // The effect of the instruction in bytes that are there, where there is room to tell.
-fn effect_in(set: &[u8], flat: &[u8], out: &mut [u64]) -> u32
-    requires { (1 ≤ length set.now) × (177 ≤ length flat.now) × (7 ≤ length out.old) }
-    ensures { Affects set.now flat.now out.old result out.new }
+fn effect_in(flat: &[u8], out: &mut [u64]) -> u32
+    requires { (177 ≤ length flat.now) × (7 ≤ length out.old) }
+    ensures { Affects flat.now out.old result out.new }
 {
-    let settings = flat::settings(set);
     let insn = flat::read(flat);
-    let answer = forms::x87_effect(settings, insn);
+    let answer = forms::x87_effect(insn);
     let w = answers::effect_fields(answer);
     lay(out, &w);
     answers::effect_number(answer)
@@ -102,12 +91,12 @@ fn effect_in(set: &[u8], flat: &[u8], out: &mut [u64]) -> u32
 
 // Tells the seven flags of what the instruction touches.
 #[unsafe(no_mangle)]
-pub extern "C" fn x87_effect(set: &[u8], flat: &[u8], out: &mut [u64]) -> u32
-    ensures { Affects set.now flat.now out.old result out.new }
+pub extern "C" fn x87_effect(flat: &[u8], out: &mut [u64]) -> u32
+    ensures { Affects flat.now out.old result out.new }
 {
     if 7 <= out.len() {
-        if (1 <= set.len()) & (177 <= flat.len()) {
-            return effect_in(set, flat, out);
+        if 177 <= flat.len() {
+            return effect_in(flat, out);
         }
         let none = [0u64; 7];
         lay(out, &none);
@@ -193,22 +182,20 @@ fn lift_in(
 // Lifts the instruction that stands in the first 177 bytes, and tells the detail of a decline. It is classified here, where it lies: to hand it on by value is to copy all of it.
 #[unsafe(no_mangle)]
 pub extern "C" fn x87_lift(
-    set: &[u8],
     flat: &[u8],
     state: &mut [u64],
     nodes: &mut [u64],
     statements: &mut [u64],
     out: &mut [u64],
 ) -> u32
-    ensures { Steps 1 (called_of set.now flat.now state.old nodes.old statements.old) state.old nodes.old statements.old out.old result state.new nodes.new statements.new out.new }
+    ensures { Steps 1 (called_of flat.now state.old nodes.old statements.old) state.old nodes.old statements.old out.old result state.new nodes.new statements.new out.new }
 {
     if 1 <= out.len() {
-        if (1 <= set.len()) & (177 <= flat.len()) {
+        if 177 <= flat.len() {
             if 13 <= state.len() {
-                let settings = flat::settings(set);
                 let insn = flat::read(flat);
-                let classified = forms::classify(settings, insn);
-                let detail = details::detail(classified, settings, insn);
+                let classified = forms::classify(insn);
+                let detail = details::detail(classified, insn);
                 let site = memory::site_of(insn);
                 let answer = lift_in(classified, detail, site, state, nodes, statements);
                 out[0] = details::beside(answer, detail) as u64;
@@ -237,7 +224,6 @@ fn tell(out: &mut [u64], answer: u32, detail: u32, next: usize, at: usize)
 
 // Reads the record at a place and lifts its instruction over a state of 13 words, where there is room to tell.
 fn lift_record_in(
-    set: &[u8],
     input: &[u8],
     at: usize,
     state: &mut [u64],
@@ -245,17 +231,16 @@ fn lift_record_in(
     statements: &mut [u64],
     out: &mut [u64],
 ) -> u32
-    requires { (1 ≤ length set.now) × (13 ≤ length state.old) × (3 ≤ length out.old) }
-    ensures { Steps 3 (stepped_of set.now (taken_at input.now at) at state.old nodes.old statements.old) state.old nodes.old statements.old out.old result state.new nodes.new statements.new out.new }
+    requires { (13 ≤ length state.old) × (3 ≤ length out.old) }
+    ensures { Steps 3 (stepped_of (taken_at input.now at) at state.old nodes.old statements.old) state.old nodes.old statements.old out.old result state.new nodes.new statements.new out.new }
 {
     let t = reader::record_at(input, at);
     let o = t.outcome;
     let insn = t.insn;
     let next = answers::place(o);
     if answers::is_record(o) {
-        let settings = flat::settings(set);
-        let classified = forms::classify(settings, insn);
-        let detail = details::detail(classified, settings, insn);
+        let classified = forms::classify(insn);
+        let detail = details::detail(classified, insn);
         let site = memory::site_of(insn);
         let answer = lift_in(classified, detail, site, state, nodes, statements);
         tell(out, answer, details::beside(answer, detail), next, at);
@@ -269,7 +254,6 @@ fn lift_record_in(
 // Reads the record at a place and lifts its instruction.
 #[unsafe(no_mangle)]
 pub extern "C" fn x87_lift_record(
-    set: &[u8],
     input: &[u8],
     at: usize,
     state: &mut [u64],
@@ -277,11 +261,11 @@ pub extern "C" fn x87_lift_record(
     statements: &mut [u64],
     out: &mut [u64],
 ) -> u32
-    ensures { Steps 3 (stepped_of set.now (taken_at input.now at) at state.old nodes.old statements.old) state.old nodes.old statements.old out.old result state.new nodes.new statements.new out.new }
+    ensures { Steps 3 (stepped_of (taken_at input.now at) at state.old nodes.old statements.old) state.old nodes.old statements.old out.old result state.new nodes.new statements.new out.new }
 {
     if 3 <= out.len() {
-        if (1 <= set.len()) & (13 <= state.len()) {
-            return lift_record_in(set, input, at, state, nodes, statements, out);
+        if 13 <= state.len() {
+            return lift_record_in(input, at, state, nodes, statements, out);
         }
         let none = [0u64; 3];
         lay(out, &none);

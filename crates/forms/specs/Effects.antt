@@ -3,14 +3,13 @@ use Rattle.std.specs.Prelude.{Bool, true, false, eqb, get_or}
 use Rattle.forms.specs.Operands.{no_operand}
 use Rattle.forms.specs.Classify.{classify_of}
 use Rattle.forms.specs.declared.Instruction.{Instruction}
-use Rattle.forms.specs.declared.Settings.{Settings}
 use Rattle.forms.specs.declared.Form.{Form}
 use Rattle.forms.specs.declared.Form.TheVariants.{PushConst, PushMemory, PushSlot, StoreMemory, StoreSlot, Arith, CompareStatus, CompareFlags, ConditionalMove, StoreStatus, Exchange, Unary}
 use Rattle.forms.specs.declared.Classified.{Classified}
 use Rattle.forms.specs.declared.Classified.TheVariants as classified
 use Rattle.forms.specs.declared.Effect.{Effect}
 use Rattle.forms.specs.declared.Affected.{Affected}
-use Rattle.forms.specs.declared.Affected.TheVariants.{Modelled, Declined, Refused}
+use Rattle.forms.specs.declared.Affected.TheVariants.{Modelled, Declined, BadText, BadOperands}
 
 -- the whole stack, both defined and used; besides it the status word or the flags are defined, or the flags are read
 abbrev pub stack_of : Bool → Bool → Bool → Effect
@@ -39,7 +38,8 @@ touched_of (Unary op) r = stack_of false false false
 abbrev pub affected_of : Classified → Bool → Affected
 affected_of (classified.Modelled f) r = Modelled (touched_of f r)
 affected_of classified.Declined r = Declined
-affected_of (classified.Refused x) r = Refused x
+affected_of classified.BadText r = BadText
+affected_of classified.BadOperands r = BadOperands
 
-unfoldable pub effect_of : Settings → Instruction → Affected
-effect_of s i = affected_of (classify_of s i) (eqb (get_or i.operands 0 no_operand).kind 0)
+unfoldable pub effect_of : Instruction → Affected
+effect_of i = affected_of (classify_of i) (eqb (get_or i.operands 0 no_operand).kind 0)

@@ -1,4 +1,4 @@
--- What each family makes of its operands, by their number and by what each of them is, in dialect d.
+-- What each family makes of its operands, by their number and by what each of them is.
 use Rattle.std.specs.Prelude.{Bool, true, false, cond, ℕ, eqb}
 use Rattle.texts.specs.Bytes.{bytes_of}
 use Rattle.texts.specs.declared.Place.{Place}
@@ -36,11 +36,11 @@ exchange_at (At i) = Modelled (Exchange i)
 exchange_at Nowhere = Declined
 
 -- `fxch` alone is `fxch st(1)`
-abbrev pub exchange_of : ℕ → Operands → Classified
-exchange_of d none = Modelled (Exchange 1)
-exchange_of d (one o) = exchange_at (slot_of d o)
-exchange_of d (two a b) = Declined
-exchange_of d more = Declined
+abbrev pub exchange_of : Operands → Classified
+exchange_of none = Modelled (Exchange 1)
+exchange_of (one o) = exchange_at (slot_of o)
+exchange_of (two a b) = Declined
+exchange_of more = Declined
 
 -- a place is loaded by `fld` alone
 abbrev pub push_slot : MemFormat → ℕ → Classified
@@ -53,11 +53,11 @@ load_at f Nowhere (Bits w) = Modelled (PushMemory w f)
 load_at f Nowhere Unmodelled = Declined
 
 -- `fld`, `fild`: one operand, a place or memory
-abbrev pub load_of : ℕ → MemFormat → Widths → Operands → Classified
-load_of d f ws none = Declined
-load_of d f ws (one o) = load_at f (slot_of d o) (width_of ws o)
-load_of d f ws (two a b) = Declined
-load_of d f ws more = Declined
+abbrev pub load_of : MemFormat → Widths → Operands → Classified
+load_of f ws none = Declined
+load_of f ws (one o) = load_at f (slot_of o) (width_of ws o)
+load_of f ws (two a b) = Declined
+load_of f ws more = Declined
 
 -- a place is stored to by `fst` and `fstp` alone
 abbrev pub store_slot : MemFormat → ℕ → Bool → Classified
@@ -70,11 +70,11 @@ store_at s Nowhere (Bits w) = Modelled (StoreMemory w s.format s.pop s.rounding)
 store_at s Nowhere Unmodelled = Declined
 
 -- the stores: one operand, a place or memory
-abbrev pub store_of : ℕ → StoreSpec → Operands → Classified
-store_of d s none = Declined
-store_of d s (one o) = store_at s (slot_of d o) (width_of s.widths o)
-store_of d s (two a b) = Declined
-store_of d s more = Declined
+abbrev pub store_of : StoreSpec → Operands → Classified
+store_of s none = Declined
+store_of s (one o) = store_at s (slot_of o) (width_of s.widths o)
+store_of s (two a b) = Declined
+store_of s more = Declined
 
 abbrev pub compare_memory : ℕ → MemorySource → Width → Classified
 compare_memory p Allowed (Bits w) = Modelled (CompareStatus (Memory w Float) p)
@@ -86,22 +86,22 @@ status_at p m (At i) w = Modelled (CompareStatus (Slot i) p)
 status_at p m Nowhere w = compare_memory p m w
 
 -- `fcom`, `fcomp` and, without memory, `fucom`, `fucomp`: alone they compare with place 1
-abbrev pub status_compare_of : ℕ → ℕ → MemorySource → Operands → Classified
-status_compare_of d p m none = Modelled (CompareStatus (Slot 1) p)
-status_compare_of d p m (one o) = status_at p m (slot_of d o) (width_of FloatShort o)
-status_compare_of d p m (two a b) = Declined
-status_compare_of d p m more = Declined
+abbrev pub status_compare_of : ℕ → MemorySource → Operands → Classified
+status_compare_of p m none = Modelled (CompareStatus (Slot 1) p)
+status_compare_of p m (one o) = status_at p m (slot_of o) (width_of FloatShort o)
+status_compare_of p m (two a b) = Declined
+status_compare_of p m more = Declined
 
 abbrev pub flag_at : Bool → Place → Classified
 flag_at pop (At i) = Modelled (CompareFlags i pop)
 flag_at pop Nowhere = Declined
 
 -- the compares that set flags: with two operands only the second is read
-abbrev pub flag_compare_of : ℕ → Bool → Operands → Classified
-flag_compare_of d pop none = Declined
-flag_compare_of d pop (one o) = flag_at pop (slot_of d o)
-flag_compare_of d pop (two a b) = flag_at pop (slot_of d b)
-flag_compare_of d pop more = Declined
+abbrev pub flag_compare_of : Bool → Operands → Classified
+flag_compare_of pop none = Declined
+flag_compare_of pop (one o) = flag_at pop (slot_of o)
+flag_compare_of pop (two a b) = flag_at pop (slot_of b)
+flag_compare_of pop more = Declined
 
 abbrev pub conditional_at : X87Condition → Place → Place → Classified
 conditional_at k (At d) (At i) = cond (eqb d 0) (Modelled (ConditionalMove i k)) Declined
@@ -109,11 +109,11 @@ conditional_at k (At d) Nowhere = Declined
 conditional_at k Nowhere q = Declined
 
 -- `fcmov`: two places, the first of them the top
-abbrev pub conditional_of : ℕ → X87Condition → Operands → Classified
-conditional_of d k none = Declined
-conditional_of d k (one o) = Declined
-conditional_of d k (two a b) = conditional_at k (slot_of d a) (slot_of d b)
-conditional_of d k more = Declined
+abbrev pub conditional_of : X87Condition → Operands → Classified
+conditional_of k none = Declined
+conditional_of k (one o) = Declined
+conditional_of k (two a b) = conditional_at k (slot_of a) (slot_of b)
+conditional_of k more = Declined
 
 abbrev pub status_to : Width → Classified
 status_to (Bits w) = Modelled StoreStatus
@@ -169,24 +169,24 @@ arith_two op rev pop (At d) Nowhere = Declined
 arith_two op rev pop Nowhere q = Declined
 
 -- `fadd` to `fdivr`, and with a final `p`, which alone is with places 1 and 0
-abbrev pub arith_of : ℕ → X87Arith → Bool → Bool → Operands → Classified
-arith_of d op rev true none = arith_slots op 1 0 rev true
-arith_of d op rev false none = Declined
-arith_of d op rev pop (one o) = arith_one op rev pop (slot_of d o) (width_of FloatShort o)
-arith_of d op rev pop (two a b) = arith_two op rev pop (slot_of d a) (slot_of d b)
-arith_of d op rev pop more = Declined
+abbrev pub arith_of : X87Arith → Bool → Bool → Operands → Classified
+arith_of op rev true none = arith_slots op 1 0 rev true
+arith_of op rev false none = Declined
+arith_of op rev pop (one o) = arith_one op rev pop (slot_of o) (width_of FloatShort o)
+arith_of op rev pop (two a b) = arith_two op rev pop (slot_of a) (slot_of b)
+arith_of op rev pop more = Declined
 
-unfoldable pub form_of : ℕ → Family → Operands → Classified
-form_of d (family.Plain f) s = plain_of f s
-form_of d family.Exchange s = exchange_of d s
-form_of d (family.Load f ws) s = load_of d f ws s
-form_of d (family.Store spec) s = store_of d spec s
-form_of d (family.StatusCompare p m) s = status_compare_of d p m s
-form_of d family.PairedCompare s = plain_of (CompareStatus (Slot 1) 2) s
-form_of d (family.FlagCompare pop) s = flag_compare_of d pop s
-form_of d family.StoreStatus s = store_status_of s
-form_of d (family.ConditionalMove k) s = conditional_of d k s
-form_of d (family.IntegerArith op rev) s = integer_arith_of op rev (integer_width s)
-form_of d (family.IntegerCompare p) s = integer_compare_of p (integer_width s)
-form_of d (family.Arith op rev pop) s = arith_of d op rev pop s
-form_of d family.Unknown s = Declined
+unfoldable pub form_of : Family → Operands → Classified
+form_of (family.Plain f) s = plain_of f s
+form_of family.Exchange s = exchange_of s
+form_of (family.Load f ws) s = load_of f ws s
+form_of (family.Store spec) s = store_of spec s
+form_of (family.StatusCompare p m) s = status_compare_of p m s
+form_of family.PairedCompare s = plain_of (CompareStatus (Slot 1) 2) s
+form_of (family.FlagCompare pop) s = flag_compare_of pop s
+form_of family.StoreStatus s = store_status_of s
+form_of (family.ConditionalMove k) s = conditional_of k s
+form_of (family.IntegerArith op rev) s = integer_arith_of op rev (integer_width s)
+form_of (family.IntegerCompare p) s = integer_compare_of p (integer_width s)
+form_of (family.Arith op rev pop) s = arith_of op rev pop s
+form_of family.Unknown s = Declined

@@ -14,8 +14,6 @@ use Rattle.forms.specs.declared.UnaryOp.{UnaryOp}
 use Rattle.forms.specs.declared.UnaryOp.TheVariants.{Abs, Chs, Sqrt, RoundToIntegral}
 use Rattle.forms.specs.declared.Form.{Form}
 use Rattle.forms.specs.declared.Form.TheVariants.{PushConst, PushMemory, PushSlot, StoreMemory, StoreSlot, Arith, CompareStatus, CompareFlags, ConditionalMove, StoreStatus, Exchange, Unary}
-use Rattle.forms.specs.declared.Refusal.{Refusal}
-use Rattle.forms.specs.declared.Refusal.TheVariants.{BadText, BadOperands, BadDialect}
 use Rattle.forms.specs.declared.Classified.{Classified}
 use Rattle.forms.specs.declared.Classified.TheVariants as classified
 use Rattle.forms.specs.declared.Effect.{Effect}
@@ -88,23 +86,19 @@ words_of (Unary op) = 12 ∷ unary_number op ∷ 0 ∷ 0 ∷ 0 ∷ 0 ∷ 0 ∷ 0
 abbrev pub no_words : List ℕ
 no_words = 0 ∷ 0 ∷ 0 ∷ 0 ∷ 0 ∷ 0 ∷ 0 ∷ 0 ∷ []
 
--- the refusals of an instruction or of settings that are none
-abbrev pub refusal_of : Refusal → ℕ
-refusal_of BadText = 3
-refusal_of BadOperands = 4
-refusal_of BadDialect = 33
-
--- 0 modelled, 1 declined, or the refusal
+-- 0 modelled, 1 declined, 3 and 4 refused
 abbrev pub number_of : Classified → ℕ
 number_of (classified.Modelled f) = 0
 number_of classified.Declined = 1
-number_of (classified.Refused r) = refusal_of r
+number_of classified.BadText = 3
+number_of classified.BadOperands = 4
 
--- beside a decline and a refusal every field is 0
+-- beside 1, 3 and 4 every field is 0
 abbrev pub fields_of : Classified → List ℕ
 fields_of (classified.Modelled f) = words_of f
 fields_of classified.Declined = no_words
-fields_of (classified.Refused r) = no_words
+fields_of classified.BadText = no_words
+fields_of classified.BadOperands = no_words
 
 abbrev pub flags_of : Effect → List ℕ
 flags_of e =
@@ -116,9 +110,11 @@ no_flags = 0 ∷ 0 ∷ 0 ∷ 0 ∷ 0 ∷ 0 ∷ 0 ∷ []
 abbrev pub effect_number : Affected → ℕ
 effect_number (affected.Modelled e) = 0
 effect_number affected.Declined = 1
-effect_number (affected.Refused r) = refusal_of r
+effect_number affected.BadText = 3
+effect_number affected.BadOperands = 4
 
 abbrev pub effect_fields : Affected → List ℕ
 effect_fields (affected.Modelled e) = flags_of e
 effect_fields affected.Declined = no_flags
-effect_fields (affected.Refused r) = no_flags
+effect_fields affected.BadText = no_flags
+effect_fields affected.BadOperands = no_flags

@@ -20,9 +20,9 @@ ranged_is o = cond (eqb o.kind 1) (leb o.known 1) (leb o.kind 2)
 unfoldable pub spelled_is : Operand → Bool
 spelled_is o = cond (eqb o.kind 0) (valid_of o.text) true
 
--- the place that an operand names in dialect d: a register's text
-unfoldable pub slot_of : ℕ → Operand → Place
-slot_of d o = cond (eqb o.kind 0) (place_of d (bytes_of o.text)) Nowhere
+-- the place that an operand names: a register's text
+unfoldable pub slot_of : Operand → Place
+slot_of o = cond (eqb o.kind 0) (place_of (bytes_of o.text)) Nowhere
 
 -- the register `ax`, in either case
 unfoldable pub ax_of : List ℕ → Bool

@@ -4,18 +4,18 @@ ghost use Rattle.forms.specs.Operands.{slot_of, takes_of, width_of, operands_of,
 ghost use Rattle.forms.specs.Families.{plain_of, exchange_of, push_slot, load_at, load_of, store_slot, store_at, store_of, compare_memory, status_at, status_compare_of, flag_at, flag_compare_of, conditional_of, store_status_at, store_status_of, integer_width, integer_arith_of, integer_compare_of, arith_slots, arith_memory, arith_one, arith_two, arith_of, form_of};
 
 use super::{
-    ArithSrc, Classified, Family, Form, MemFormat, MemorySource, Operand, Settings, StoreSpec,
-    Width, Widths, X87Arith, X87Condition,
+    ArithSrc, Classified, Family, Form, MemFormat, MemorySource, Operand, StoreSpec, Width, Widths,
+    X87Arith, X87Condition,
 };
 use texts::Place;
 
-// The place that an operand names in a dialect: a register's text.
-pub fn slot_index(o: Operand, dialect: u8) -> Place
-    ensures { result ≡ slot_of dialect o }
+// The place that an operand names: a register's text.
+pub fn slot_index(o: Operand) -> Place
+    ensures { result ≡ slot_of o }
 {
     let t = o.text;
     if o.kind == 0 {
-        return texts::slot_index_text(t, dialect);
+        return texts::slot_index_text(t);
     }
     Place::Nowhere
 }
@@ -59,15 +59,15 @@ fn no_operands(ops: [Operand; 3], count: usize, form: Form) -> Classified
 }
 
 // With no operand, place 1.
-fn classify_exchange(ops: [Operand; 3], count: usize, settings: Settings) -> Classified
-    ensures { result ≡ exchange_of settings.dialect (operands_of count ops) }
+fn classify_exchange(ops: [Operand; 3], count: usize) -> Classified
+    ensures { result ≡ exchange_of (operands_of count ops) }
 {
     if count == 0 {
         return Classified::Modelled(Form::Exchange(1));
     }
     if count == 1 {
         let o = ops[0];
-        let Place::At(index) = slot_index(o, settings.dialect) else {
+        let Place::At(index) = slot_index(o) else {
             return Classified::Declined;
         };
         return Classified::Modelled(Form::Exchange(index));
@@ -86,10 +86,10 @@ fn push_slot(format: MemFormat, index: u32) -> Classified
 }
 
 // The operand of a load: a place, or memory.
-fn load(o: Operand, format: MemFormat, widths: Widths, settings: Settings) -> Classified
-    ensures { result ≡ load_at format (slot_of settings.dialect o) (width_of widths o) }
+fn load(o: Operand, format: MemFormat, widths: Widths) -> Classified
+    ensures { result ≡ load_at format (slot_of o) (width_of widths o) }
 {
-    let Place::At(index) = slot_index(o, settings.dialect) else {
+    let Place::At(index) = slot_index(o) else {
         let Width::Bits(width) = modellable_memory_width(o, widths) else {
             return Classified::Declined;
         };
@@ -98,18 +98,12 @@ fn load(o: Operand, format: MemFormat, widths: Widths, settings: Settings) -> Cl
     push_slot(format, index)
 }
 
-fn classify_load(
-    ops: [Operand; 3],
-    count: usize,
-    format: MemFormat,
-    widths: Widths,
-    settings: Settings,
-) -> Classified
-    ensures { result ≡ load_of settings.dialect format widths (operands_of count ops) }
+fn classify_load(ops: [Operand; 3], count: usize, format: MemFormat, widths: Widths) -> Classified
+    ensures { result ≡ load_of format widths (operands_of count ops) }
 {
     if count == 1 {
         let o = ops[0];
-        return load(o, format, widths, settings);
+        return load(o, format, widths);
     }
     Classified::Declined
 }
@@ -125,13 +119,13 @@ fn store_slot(format: MemFormat, index: u32, pop: bool) -> Classified
 }
 
 // The operand of a store: a place, or memory.
-fn store(o: Operand, spec: StoreSpec, settings: Settings) -> Classified
-    ensures { result ≡ store_at spec (slot_of settings.dialect o) (width_of spec.widths o) }
+fn store(o: Operand, spec: StoreSpec) -> Classified
+    ensures { result ≡ store_at spec (slot_of o) (width_of spec.widths o) }
 {
     let format = spec.format;
     let widths = spec.widths;
     let rounding = spec.rounding;
-    let Place::At(index) = slot_index(o, settings.dialect) else {
+    let Place::At(index) = slot_index(o) else {
         let Width::Bits(width) = modellable_memory_width(o, widths) else {
             return Classified::Declined;
         };
@@ -145,17 +139,12 @@ fn store(o: Operand, spec: StoreSpec, settings: Settings) -> Classified
     store_slot(format, index, spec.pop)
 }
 
-fn classify_store(
-    ops: [Operand; 3],
-    count: usize,
-    spec: StoreSpec,
-    settings: Settings,
-) -> Classified
-    ensures { result ≡ store_of settings.dialect spec (operands_of count ops) }
+fn classify_store(ops: [Operand; 3], count: usize, spec: StoreSpec) -> Classified
+    ensures { result ≡ store_of spec (operands_of count ops) }
 {
     if count == 1 {
         let o = ops[0];
-        return store(o, spec, settings);
+        return store(o, spec);
     }
     Classified::Declined
 }
@@ -182,10 +171,10 @@ fn compare_memory(o: Operand, pops: u8, memory: MemorySource) -> Classified
 }
 
 // The operand of a compare: a place, or memory.
-fn compare(o: Operand, pops: u8, memory: MemorySource, settings: Settings) -> Classified
-    ensures { result ≡ status_at pops memory (slot_of settings.dialect o) (width_of Widths.FloatShort o) }
+fn compare(o: Operand, pops: u8, memory: MemorySource) -> Classified
+    ensures { result ≡ status_at pops memory (slot_of o) (width_of Widths.FloatShort o) }
 {
-    let Place::At(index) = slot_index(o, settings.dialect) else {
+    let Place::At(index) = slot_index(o) else {
         return compare_memory(o, pops, memory);
     };
     Classified::Modelled(Form::CompareStatus {
@@ -200,9 +189,8 @@ fn classify_status_compare(
     count: usize,
     pops: u8,
     memory: MemorySource,
-    settings: Settings,
 ) -> Classified
-    ensures { result ≡ status_compare_of settings.dialect pops memory (operands_of count ops) }
+    ensures { result ≡ status_compare_of pops memory (operands_of count ops) }
 {
     if count == 0 {
         return Classified::Modelled(Form::CompareStatus {
@@ -212,57 +200,47 @@ fn classify_status_compare(
     }
     if count == 1 {
         let o = ops[0];
-        return compare(o, pops, memory, settings);
+        return compare(o, pops, memory);
     }
     Classified::Declined
 }
 
 // The source of a compare that sets flags.
-fn compare_flags(o: Operand, pop: bool, settings: Settings) -> Classified
-    ensures { result ≡ flag_at pop (slot_of settings.dialect o) }
+fn compare_flags(o: Operand, pop: bool) -> Classified
+    ensures { result ≡ flag_at pop (slot_of o) }
 {
-    let Place::At(src) = slot_index(o, settings.dialect) else {
+    let Place::At(src) = slot_index(o) else {
         return Classified::Declined;
     };
     Classified::Modelled(Form::CompareFlags { src, pop })
 }
 
 // The only operand, or the second of two.
-fn classify_flag_compare(
-    ops: [Operand; 3],
-    count: usize,
-    pop: bool,
-    settings: Settings,
-) -> Classified
-    ensures { result ≡ flag_compare_of settings.dialect pop (operands_of count ops) }
+fn classify_flag_compare(ops: [Operand; 3], count: usize, pop: bool) -> Classified
+    ensures { result ≡ flag_compare_of pop (operands_of count ops) }
 {
     if count == 1 {
         let o = ops[0];
-        return compare_flags(o, pop, settings);
+        return compare_flags(o, pop);
     }
     if count == 2 {
         let o = ops[1];
-        return compare_flags(o, pop, settings);
+        return compare_flags(o, pop);
     }
     Classified::Declined
 }
 
 // Two places, the first of them the top.
-fn classify_conditional_move(
-    ops: [Operand; 3],
-    count: usize,
-    condition: X87Condition,
-    settings: Settings,
-) -> Classified
-    ensures { result ≡ conditional_of settings.dialect condition (operands_of count ops) }
+fn classify_conditional_move(ops: [Operand; 3], count: usize, condition: X87Condition) -> Classified
+    ensures { result ≡ conditional_of condition (operands_of count ops) }
 {
     if count == 2 {
         let a = ops[0];
         let b = ops[1];
-        let Place::At(dst) = slot_index(a, settings.dialect) else {
+        let Place::At(dst) = slot_index(a) else {
             return Classified::Declined;
         };
-        let Place::At(src) = slot_index(b, settings.dialect) else {
+        let Place::At(src) = slot_index(b) else {
             return Classified::Declined;
         };
         if dst == 0 {
@@ -403,10 +381,10 @@ fn arith_memory(o: Operand, op: X87Arith, reversed: bool, pop: bool) -> Classifi
 }
 
 // One operand: a place is the source, or with a pop the destination; anything else is memory.
-fn arith_one(o: Operand, op: X87Arith, reversed: bool, pop: bool, settings: Settings) -> Classified
-    ensures { result ≡ arith_one op reversed pop (slot_of settings.dialect o) (width_of Widths.FloatShort o) }
+fn arith_one(o: Operand, op: X87Arith, reversed: bool, pop: bool) -> Classified
+    ensures { result ≡ arith_one op reversed pop (slot_of o) (width_of Widths.FloatShort o) }
 {
-    let Place::At(index) = slot_index(o, settings.dialect) else {
+    let Place::At(index) = slot_index(o) else {
         return arith_memory(o, op, reversed, pop);
     };
     if pop {
@@ -416,20 +394,13 @@ fn arith_one(o: Operand, op: X87Arith, reversed: bool, pop: bool, settings: Sett
 }
 
 // Two operands: the destination and the source, both places.
-fn arith_two(
-    a: Operand,
-    b: Operand,
-    op: X87Arith,
-    reversed: bool,
-    pop: bool,
-    settings: Settings,
-) -> Classified
-    ensures { result ≡ arith_two op reversed pop (slot_of settings.dialect a) (slot_of settings.dialect b) }
+fn arith_two(a: Operand, b: Operand, op: X87Arith, reversed: bool, pop: bool) -> Classified
+    ensures { result ≡ arith_two op reversed pop (slot_of a) (slot_of b) }
 {
-    let Place::At(dst) = slot_index(a, settings.dialect) else {
+    let Place::At(dst) = slot_index(a) else {
         return Classified::Declined;
     };
-    let Place::At(src) = slot_index(b, settings.dialect) else {
+    let Place::At(src) = slot_index(b) else {
         return Classified::Declined;
     };
     arith_slots(op, dst, src, reversed, pop)
@@ -441,9 +412,8 @@ fn classify_arith(
     op: X87Arith,
     reversed: bool,
     pop: bool,
-    settings: Settings,
 ) -> Classified
-    ensures { result ≡ arith_of settings.dialect op reversed pop (operands_of count ops) }
+    ensures { result ≡ arith_of op reversed pop (operands_of count ops) }
 {
     if count == 0 {
         if pop {
@@ -453,33 +423,26 @@ fn classify_arith(
     }
     if count == 1 {
         let o = ops[0];
-        return arith_one(o, op, reversed, pop, settings);
+        return arith_one(o, op, reversed, pop);
     }
     if count == 2 {
         let a = ops[0];
         let b = ops[1];
-        return arith_two(a, b, op, reversed, pop, settings);
+        return arith_two(a, b, op, reversed, pop);
     }
     Classified::Declined
 }
 
 // What a name's family makes of the operands below the count.
-pub(crate) fn form(
-    family: Family,
-    ops: [Operand; 3],
-    count: usize,
-    settings: Settings,
-) -> Classified
-    ensures { result ≡ form_of settings.dialect family (operands_of count ops) }
+pub(crate) fn form(family: Family, ops: [Operand; 3], count: usize) -> Classified
+    ensures { result ≡ form_of family (operands_of count ops) }
 {
     match family {
         Family::Plain(form) => no_operands(ops, count, form),
-        Family::Exchange => classify_exchange(ops, count, settings),
-        Family::Load { format, widths } => classify_load(ops, count, format, widths, settings),
-        Family::Store(spec) => classify_store(ops, count, spec, settings),
-        Family::StatusCompare { pops, memory } => classify_status_compare(
-            ops, count, pops, memory, settings,
-        ),
+        Family::Exchange => classify_exchange(ops, count),
+        Family::Load { format, widths } => classify_load(ops, count, format, widths),
+        Family::Store(spec) => classify_store(ops, count, spec),
+        Family::StatusCompare { pops, memory } => classify_status_compare(ops, count, pops, memory),
         Family::PairedCompare => no_operands(
             ops,
             count,
@@ -488,16 +451,12 @@ pub(crate) fn form(
                 pops: 2,
             },
         ),
-        Family::FlagCompare { pop } => classify_flag_compare(ops, count, pop, settings),
+        Family::FlagCompare { pop } => classify_flag_compare(ops, count, pop),
         Family::StoreStatus => classify_store_status(ops, count),
-        Family::ConditionalMove(condition) => classify_conditional_move(
-            ops, count, condition, settings,
-        ),
+        Family::ConditionalMove(condition) => classify_conditional_move(ops, count, condition),
         Family::IntegerArith { op, reversed } => classify_integer_arith(ops, count, op, reversed),
         Family::IntegerCompare { pops } => classify_integer_compare(ops, count, pops),
-        Family::Arith { op, reversed, pop } => classify_arith(
-            ops, count, op, reversed, pop, settings,
-        ),
+        Family::Arith { op, reversed, pop } => classify_arith(ops, count, op, reversed, pop),
         Family::Unknown => Classified::Declined,
     }
 }

@@ -5,8 +5,7 @@ pub mod names;
 ghost use Rattle.std.specs.Prelude.{◌≡◌, ◌≤◌, take};
 ghost use Rattle.texts.specs.Bytes.{all};
 ghost use Rattle.forms.specs.Operands.{ranged_is, spelled_is};
-ghost use Rattle.forms.specs.Classify.{dialect_is, classify_of};
-ghost use Rattle.forms.specs.Numbers.{refusal_of};
+ghost use Rattle.forms.specs.Classify.{classify_of};
 ghost use Rattle.forms.specs.Effects.{stack_of, status_of, touched_of, effect_of};
 
 use texts::Text;
@@ -226,26 +225,13 @@ pub struct Shape {
     pub two: Two,
 }
 
-// How a call reads an instruction: the dialect, 0 where a place has its number in brackets, 1 where `st` alone is place 0.
-#[derive(Drop)]
-pub struct Settings {
-    pub dialect: u8,
-}
-
-// What is no instruction, and settings that are none.
-#[derive(Drop)]
-pub enum Refusal {
-    BadText,
-    BadOperands,
-    BadDialect,
-}
-
-// The answer of `classify`: a form, the Rust's decline, or a refusal.
+// The answer of `classify`: a form, the Rust's decline, or the refusal of a text (3) or of an operand (4).
 #[derive(Drop)]
 pub enum Classified {
     Modelled(Form),
     Declined,
-    Refused(Refusal),
+    BadText,
+    BadOperands,
 }
 
 // What an instruction touches beyond the registers that its operands name.
@@ -265,18 +251,8 @@ pub struct Effect {
 pub enum Affected {
     Modelled(Effect),
     Declined,
-    Refused(Refusal),
-}
-
-// The number of a refusal.
-pub fn refusal_number(r: Refusal) -> u32
-    ensures { result ≡ refusal_of r }
-{
-    match r {
-        Refusal::BadText => 3,
-        Refusal::BadOperands => 4,
-        Refusal::BadDialect => 33,
-    }
+    BadText,
+    BadOperands,
 }
 
 // Whether an operand's kind, and a memory operand's flag, are in range.
@@ -326,37 +302,27 @@ fn operands_fit(ops: [Operand; 3], count: usize) -> Fit
     }
 }
 
-// Whether there is such a dialect.
-pub fn dialect_is(dialect: u8) -> bool
-    ensures { result ≡ dialect_is dialect }
-{
-    dialect <= 1
-}
-
-// What an instruction does to the stack, or that it is declined, or 33 where there is no such dialect, or 4 or 3 where it is no instruction.
-pub fn classify(settings: Settings, insn: Instruction) -> Classified
-    ensures { result ≡ classify_of settings insn }
+// What an instruction does to the stack, or that it is declined, or 4 or 3 where it is no instruction.
+pub fn classify(insn: Instruction) -> Classified
+    ensures { result ≡ classify_of insn }
 {
     let ops = insn.operands;
     let m = insn.mnemonic;
     let count = insn.count;
-    if dialect_is(settings.dialect) {
-        if 3 < count {
-            return Classified::Refused(Refusal::BadOperands);
-        }
-        let fit = operands_fit(ops, count);
-        if fit.ranged {
-            if texts::valid(m) {
-                if fit.spelled {
-                    let family = names::family_text(m);
-                    return families::form(family, ops, count, settings);
-                }
-            }
-            return Classified::Refused(Refusal::BadText);
-        }
-        return Classified::Refused(Refusal::BadOperands);
+    if 3 < count {
+        return Classified::BadOperands;
     }
-    Classified::Refused(Refusal::BadDialect)
+    let fit = operands_fit(ops, count);
+    if fit.ranged {
+        if texts::valid(m) {
+            if fit.spelled {
+                let family = names::family_text(m);
+                return families::form(family, ops, count);
+            }
+        }
+        return Classified::BadText;
+    }
+    Classified::BadOperands
 }
 
 // The whole stack, both defined and used, and besides it the status word or the flags defined, or the flags read.
@@ -427,14 +393,15 @@ fn touched(form: Form, register: bool) -> Effect
 }
 
 // What an instruction touches, or as `classify` that it is declined or no instruction.
-pub fn x87_effect(settings: Settings, insn: Instruction) -> Affected
-    ensures { result ≡ effect_of settings insn }
+pub fn x87_effect(insn: Instruction) -> Affected
+    ensures { result ≡ effect_of insn }
 {
     let ops = insn.operands;
     let first = ops[0];
-    match classify(settings, insn) {
+    match classify(insn) {
         Classified::Modelled(form) => Affected::Modelled(touched(form, first.kind == 0)),
         Classified::Declined => Affected::Declined,
-        Classified::Refused(r) => Affected::Refused(r),
+        Classified::BadText => Affected::BadText,
+        Classified::BadOperands => Affected::BadOperands,
     }
 }

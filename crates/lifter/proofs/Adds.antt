@@ -5,9 +5,8 @@ use Rattle.lists.specs.declared.State.{State}
 use Rattle.lists.proofs.Adds.{Adds, same, more, gives-adds, exchange-adds}
 use Rattle.forms.specs.declared.Form.{Form}
 use Rattle.forms.specs.declared.Form.TheVariants.{PushConst, PushMemory, PushSlot, StoreMemory, StoreSlot, Arith, CompareStatus, CompareFlags, ConditionalMove, StoreStatus, Exchange, Unary}
-use Rattle.forms.specs.Numbers.{refusal_of}
 use Rattle.forms.specs.declared.Classified.{Classified}
-use Rattle.forms.specs.declared.Classified.TheVariants.{Modelled, Declined, Refused}
+use Rattle.forms.specs.declared.Classified.TheVariants.{Modelled, Declined, BadText, BadOperands}
 use Rattle.lifter.specs.Apply.{apply_x87_of}
 use Rattle.lifter.specs.Lift.{lowered_of}
 use Rattle.memory.specs.declared.Site.{Site}
@@ -35,4 +34,5 @@ module _ (s : State) where
   unfolding lowered_of
   lowered-adds (Modelled form) detail site = apply-adds form site
   lowered-adds Declined detail site = more (decline-adds s 1 site.address detail) (omega arith) (omega arith)
-  lowered-adds (Refused r) detail site = more (gives-adds s s (refusal_of r) (same s)) (omega arith) (omega arith)
+  lowered-adds BadText detail site = more (gives-adds s s 3 (same s)) (omega arith) (omega arith)
+  lowered-adds BadOperands detail site = more (gives-adds s s 4 (same s)) (omega arith) (omega arith)

@@ -14,12 +14,8 @@ use Rattle.lists.specs.declared.State.{State}
 use Rattle.forms.specs.declared.Form.{Form}
 use Rattle.forms.specs.declared.Form.TheVariants.{PushConst, PushMemory, PushSlot, StoreMemory, StoreSlot, Arith, CompareStatus, CompareFlags, ConditionalMove, StoreStatus, Exchange, Unary}
 use Rattle.forms.specs.declared.Classified.{Classified}
-use Rattle.forms.specs.declared.Classified.TheVariants.{Modelled, Declined, Refused}
-use Rattle.forms.specs.declared.Refusal.{Refusal}
-use Rattle.forms.specs.declared.Refusal.TheVariants.{BadText, BadOperands, BadDialect}
+use Rattle.forms.specs.declared.Classified.TheVariants.{Modelled, Declined, BadText, BadOperands}
 use Rattle.forms.specs.declared.Instruction.{Instruction}
-use Rattle.forms.specs.declared.Settings.{Settings}
-use Rattle.forms.specs.Numbers.{refusal_of}
 use Rattle.forms.specs.Classify.{classify_of}
 use Rattle.details.specs.Why.{why_of, detail_for, beside_of, detail_of}
 use Rattle.memory.specs.declared.Site.{Site}
@@ -63,21 +59,16 @@ module _ (test : ℕ → Bool) (zero-so : test 0 ≡ true) (two-so : test 2 ≡ 
   apply-answers s (Unary op) site = zero-so
 
 -- The detail beside an answer of `classify` is all that is looked at
-pub detailed : (s : State) (c : Classified) (set : Settings) (insn : Instruction) (site : Site) → lowered_of s c (detail_for c set insn) site ≡ lowered_of s c (why_of set insn) site
+pub detailed : (s : State) (c : Classified) (insn : Instruction) (site : Site) → lowered_of s c (detail_for c insn) site ≡ lowered_of s c (why_of insn) site
 unfolding lowered_of detail_for
-detailed s (Modelled form) set insn site = refl
-detailed s Declined set insn site = refl
-detailed s (Refused r) set insn site = refl
+detailed s (Modelled form) insn site = refl
+detailed s Declined insn site = refl
+detailed s BadText insn site = refl
+detailed s BadOperands insn site = refl
 
 -- An answer that is not 1 has no detail beside it, whatever is offered
 not-one : ℕ → Bool
 not-one n = cond (eqb n 1) false true
-
-refusal-other : (r : Refusal) → not-one (refusal_of r) ≡ true
-unfolding not-one
-refusal-other BadText = refl
-refusal-other BadOperands = refl
-refusal-other BadDialect = refl
 
 silent : (answer v w : ℕ) → not-one answer ≡ true → beside_of answer v ≡ beside_of answer w
 unfolding not-one
@@ -106,26 +97,26 @@ module _ (s : State) (n m : List ℕ) where
   placed-silent c d site v h = silent (placed_of s c d site n m).val v d (placed-other c d site h)
 
   -- THE DETAIL BESIDE A LIFT: what `classify` has beside its answer is told where the lift answers 1
-  told : (c : Classified) (set : Settings) (insn : Instruction) (site : Site)
-      → beside_of (placed_of s c (why_of set insn) site n m).val (detail_for c set insn) ≡ beside_of (placed_of s c (why_of set insn) site n m).val (why_of set insn)
+  told : (c : Classified) (insn : Instruction) (site : Site)
+      → beside_of (placed_of s c (why_of insn) site n m).val (detail_for c insn) ≡ beside_of (placed_of s c (why_of insn) site n m).val (why_of insn)
   unfolding lowered_of gives detail_for not-one
-  told (Modelled form) set insn site = placed-silent (Modelled form) (why_of set insn) site 0 (apply-answers not-one refl refl s form site)
-  told Declined set insn site = refl
-  told (Refused r) set insn site = placed-silent (Refused r) (why_of set insn) site 0 (refusal-other r)
+  told (Modelled form) insn site = placed-silent (Modelled form) (why_of insn) site 0 (apply-answers not-one refl refl s form site)
+  told Declined insn site = refl
+  told BadText insn site = placed-silent BadText (why_of insn) site 0 refl
+  told BadOperands insn site = placed-silent BadOperands (why_of insn) site 0 refl
 
-  module _ (set : Settings) (insn : Instruction) where
-    pub lift-told : beside_of (lift_of s set insn n m).val (detail_for (classify_of set insn) set insn) ≡ detail_of (lift_of s set insn n m).val set insn
-    unfolding lift_of detail_of
-    lift-told = told (classify_of set insn) set insn (site_of insn)
+  pub lift-told : (insn : Instruction) → beside_of (lift_of s insn n m).val (detail_for (classify_of insn) insn) ≡ detail_of (lift_of s insn n m).val insn
+  unfolding lift_of detail_of
+  lift-told insn = told (classify_of insn) insn (site_of insn)
 
-    -- WHAT IS CLASSIFIED FIRST is lifted as the instruction
-    pub placed-lift : placed_of s (classify_of set insn) (detail_for (classify_of set insn) set insn) (site_of insn) n m ≡ lift_of s set insn n m
-    unfolding lift_of
-    placed-lift = rw (detailed s (classify_of set insn) set insn (site_of insn))
+  -- WHAT IS CLASSIFIED FIRST is lifted as the instruction
+  pub placed-lift : (insn : Instruction) → placed_of s (classify_of insn) (detail_for (classify_of insn) insn) (site_of insn) n m ≡ lift_of s insn n m
+  unfolding lift_of
+  placed-lift insn = rw (detailed s (classify_of insn) insn (site_of insn))
 
-    pub lifted : (c : Classified) (d : ℕ) (site : Site) → c ≡ classify_of set insn → d ≡ detail_for c set insn → site ≡ site_of insn → {t : State} {a w : ℕ} {n' m' : List ℕ}
-        → Does (placed_of s c d site n m) t a n n' m m' → w ≡ beside_of a d → Lifts (lift_of s set insn n m) set insn t a w n n' m m'
-    lifted c d site p q e x b =
-        let f = q ∙ ap (λ (c : Classified). detail_for c set insn) p in
-        let y = rw (f, p, e, placed-lift) at x in
-        record { does = y; detail-is = rw f at b ∙ rw y.number lift-told }
+  pub lifted : (insn : Instruction) (c : Classified) (d : ℕ) (site : Site) → c ≡ classify_of insn → d ≡ detail_for c insn → site ≡ site_of insn → {t : State} {a w : ℕ} {n' m' : List ℕ}
+      → Does (placed_of s c d site n m) t a n n' m m' → w ≡ beside_of a d → Lifts (lift_of s insn n m) insn t a w n n' m m'
+  lifted insn c d site p q e x b =
+      let f = q ∙ ap (λ (c : Classified). detail_for c insn) p in
+      let y = rw (f, p, e, placed-lift insn) at x in
+      record { does = y; detail-is = rw f at b ∙ rw y.number (lift-told insn) }

@@ -5,22 +5,21 @@ use Rattle.lists.specs.Steps.{Built, gives, Does}
 use Rattle.lists.specs.Valid.{valid_of}
 use Rattle.lists.specs.declared.State.{State}
 use Rattle.forms.specs.Classify.{classify_of}
-use Rattle.forms.specs.Numbers.{refusal_of}
 use Rattle.forms.specs.declared.Instruction.{Instruction}
-use Rattle.forms.specs.declared.Settings.{Settings}
 use Rattle.forms.specs.declared.Classified.{Classified}
-use Rattle.forms.specs.declared.Classified.TheVariants.{Modelled, Declined, Refused}
+use Rattle.forms.specs.declared.Classified.TheVariants.{Modelled, Declined, BadText, BadOperands}
 use Rattle.details.specs.Why.{why_of, detail_of}
 use Rattle.memory.specs.Site.{site_of}
 use Rattle.lifter.specs.Apply.{apply_x87_of}
 use Rattle.moves.specs.Pushes.{decline_x87_of}
 use Rattle.memory.specs.declared.Site.{Site}
 
--- What an instruction comes to over lists of any length: 0 or 2, 1 with this detail, or a refusal
+-- What an instruction comes to over lists of any length: 0 or 2, 1 with this detail, 3, 4
 unfoldable pub lowered_of : State → Classified → ℕ → Site → Built
 lowered_of s (Modelled form) detail site = apply_x87_of s form site
 lowered_of s Declined detail site = decline_x87_of s 1 site.address detail
-lowered_of s (Refused r) detail site = gives s (refusal_of r)
+lowered_of s BadText detail site = gives s 3
+lowered_of s BadOperands detail site = gives s 4
 
 -- Nothing is done where the whole does not fit: 6 for the nodes, 7 for the statements
 unfoldable pub fitting_of : Built → State → List ℕ → List ℕ → Built
@@ -36,10 +35,10 @@ placed_of s classified detail site nodes statements =
     (fitting_of (lowered_of s classified detail site) s nodes statements)
     (gives s 5)
 
-unfoldable pub lift_of : State → Settings → Instruction → List ℕ → List ℕ → Built
-lift_of s set insn nodes statements = placed_of s (classify_of set insn) (why_of set insn) (site_of insn) nodes statements
+unfoldable pub lift_of : State → Instruction → List ℕ → List ℕ → Built
+lift_of s insn nodes statements = placed_of s (classify_of insn) (why_of insn) (site_of insn) nodes statements
 
 -- What a call of lift promises of its step: state and answer, both lists, and the detail
-pub record Lifts (b : Built) (set : Settings) (insn : Instruction) (st : State) (val detail : ℕ) (old new old' new' : List ℕ) : Type 0 where
+pub record Lifts (b : Built) (insn : Instruction) (st : State) (val detail : ℕ) (old new old' new' : List ℕ) : Type 0 where
   pub does : Does b st val old new old' new'
-  pub detail-is : detail ≡ detail_of val set insn
+  pub detail-is : detail ≡ detail_of val insn

@@ -5,7 +5,7 @@ ghost use Rattle.lists.specs.Steps.{Does};
 ghost use Rattle.lifter.specs.Apply.{apply_x87_of};
 ghost use Rattle.lifter.specs.Lift.{lowered_of, fitting_of, placed_of, lift_of, Lifts};
 
-use forms::{Classified, Form, Instruction, Settings};
+use forms::{Classified, Form, Instruction};
 use lists::State;
 use memory::{Done, Site};
 
@@ -68,9 +68,13 @@ fn lower(
     match classified {
         Classified::Modelled(form) => apply_x87(nodes, statements, s, form, site),
         Classified::Declined => moves::decline_x87(statements, s, 1, site.address, detail),
-        Classified::Refused(r) => Done {
+        Classified::BadText => Done {
             state: s,
-            answer: forms::refusal_number(r),
+            answer: 3,
+        },
+        Classified::BadOperands => Done {
+            state: s,
+            answer: 4,
         },
     }
 }
@@ -130,7 +134,7 @@ fn fit(
     fit_tight(nodes, statements, s, classified, detail, site)
 }
 
-// Lifts what `classify` answered, with the detail of a decline, if the state is valid: 0 modelled, 1 and 2 declined, any other refused with nothing changed.
+// Lifts what `classify` answered, with the detail of a decline, if the state is valid: 0 modelled, 1 and 2 declined, 3 to 7 refused with nothing changed.
 pub fn lift_classified(
     nodes: &mut [u64],
     statements: &mut [u64],
@@ -151,17 +155,11 @@ pub fn lift_classified(
 }
 
 // Lifts one instruction, and gives the detail of a decline beside its answer.
-pub fn lift(
-    nodes: &mut [u64],
-    statements: &mut [u64],
-    s: State,
-    settings: Settings,
-    insn: Instruction,
-) -> Lifted
-    ensures { Lifts (lift_of s settings insn nodes.old statements.old) settings insn result.state result.answer result.detail nodes.old nodes.new statements.old statements.new }
+pub fn lift(nodes: &mut [u64], statements: &mut [u64], s: State, insn: Instruction) -> Lifted
+    ensures { Lifts (lift_of s insn nodes.old statements.old) insn result.state result.answer result.detail nodes.old nodes.new statements.old statements.new }
 {
-    let classified = forms::classify(settings, insn);
-    let detail = details::detail(classified, settings, insn);
+    let classified = forms::classify(insn);
+    let detail = details::detail(classified, insn);
     let site = memory::site_of(insn);
     let done = lift_classified(nodes, statements, s, classified, detail, site);
     let state = done.state;

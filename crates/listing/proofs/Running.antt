@@ -17,8 +17,6 @@ use Rattle.records.specs.declared.Refusal.{Refusal}
 use Rattle.records.specs.declared.Taken.{Taken}
 use Rattle.records.specs.declared.Outcome.{Outcome}
 use Rattle.records.specs.declared.Outcome.TheVariants.{Record, End, Refused}
-use Rattle.forms.specs.Classify.{dialect_is}
-use Rattle.forms.specs.declared.Settings.{Settings}
 use Rattle.lifter.specs.Lift.{lift_of}
 use Rattle.listing.specs.Run.{Ran, Runs, run_from, run_of}
 use Rattle.listing.specs.Inside.Turn.{Turned, goes, going_on, halted_at}
@@ -32,36 +30,36 @@ never t = omega arith
 off : {P : Type 0} → false ≡ true → P
 off e = let z : ◌≡◌ {A = ℕ} 0 1 = cc in absurd (never z)
 
-module _ (set : Settings) (t : Taken) (at : ℕ) (s : State) (n m : List ℕ) where
-  pub at-end : (c : Cursor) → t.outcome ≡ End c → Turned set t at s n m (halted_at set s 0 0) n m
-  at-end c o = record { comes = λ on. rw o; read = off; set-by = refl }
+module _ (t : Taken) (at : ℕ) (s : State) (n m : List ℕ) where
+  pub at-end : (c : Cursor) → t.outcome ≡ End c → Turned t at s n m (halted_at s 0 0) n m
+  at-end c o = record { comes = λ on. rw o; read = off }
 
-  pub refused : (r : Refusal) (p : ℕ) → t.outcome ≡ Refused r p → Turned set t at s n m (halted_at set s (refusal_of r) p) n m
-  refused r p o = record { comes = λ on. rw o; read = off; set-by = refl }
+  pub refused : (r : Refusal) (p : ℕ) → t.outcome ≡ Refused r p → Turned t at s n m (halted_at s (refusal_of r) p) n m
+  refused r p o = record { comes = λ on. rw o; read = off }
 
-  module _ (c : Cursor) (o : t.outcome ≡ Record c) (s' : State) (a : ℕ) (n' m' : List ℕ) (d : Does (lift_of s set t.insn n m) s' a n n' m m') where
-    pub lifts-on : a ≤ 2 → Turned set t at s n m (going_on set s') n' m'
-    lifts-on l = record { comes = λ on. rw (o, ← d.number, ← d.state, ← d.list, ← d.said, le-leb a 2 l); read = λ _. rw o; set-by = refl }
+  module _ (c : Cursor) (o : t.outcome ≡ Record c) (s' : State) (a : ℕ) (n' m' : List ℕ) (d : Does (lift_of s t.insn n m) s' a n n' m m') where
+    pub lifts-on : a ≤ 2 → Turned t at s n m (going_on s') n' m'
+    lifts-on l = record { comes = λ on. rw (o, ← d.number, ← d.state, ← d.list, ← d.said, le-leb a 2 l); read = λ _. rw o }
 
-    pub lift-refused : 2 < a → Turned set t at s n m (halted_at set s' a at) n' m'
-    lift-refused l = record { comes = λ on. rw (o, ← d.number, ← d.state, ← d.list, ← d.said, lt-leb a 2 l); read = off; set-by = refl }
+    pub lift-refused : 2 < a → Turned t at s n m (halted_at s' a at) n' m'
+    lift-refused l = record { comes = λ on. rw (o, ← d.number, ← d.state, ← d.list, ← d.said, lt-leb a 2 l); read = off }
 
 -- what a run comes to from a place on
 abbrev pub whole : List ℕ → ℕ → Progress → List ℕ → List ℕ → Ran
-whole input at g n m = goes g n m (run_from g.settings (length input) input at)
+whole input at g n m = goes g n m (run_from (length input) input at)
 
 -- how many turns it can still take
 abbrev pub ahead : List ℕ → ℕ → Progress → ℕ
 ahead input at g = cond g.on (suc (length input - at)) 0
 
-module _ (input : List ℕ) (at : ℕ) (g h : Progress) (n m n' m' : List ℕ) (t : Taken) (e : t ≡ taken_at input at) (going : g.on ≡ true) (d : Turned g.settings t at g.stop.state n m h n' m') where
-  one : (s : State) → run_from g.settings (length input) input at s n m ≡ run_from g.settings (suc (length input)) input at s n m
-  one s = enough input g.settings (length input) at s n m (omega arith)
+module _ (input : List ℕ) (at : ℕ) (g h : Progress) (n m n' m' : List ℕ) (t : Taken) (e : t ≡ taken_at input at) (going : g.on ≡ true) (d : Turned t at g.stop.state n m h n' m') where
+  one : (s : State) → run_from (length input) input at s n m ≡ run_from (suc (length input)) input at s n m
+  one s = enough input (length input) at s n m (omega arith)
 
   -- a turn leaves what the run comes to as it is ..
   pub turned : whole input (place_of t.outcome) h n' m' ≡ whole input at g n m
   unfolding run_from
-  turned = rw (d.set-by, going, one g.stop.state, ← e) (sym (d.comes (λ next s n m. run_from g.settings (length input) input next s n m)))
+  turned = rw (going, one g.stop.state, ← e) (sym (d.comes (λ next s n m. run_from (length input) input next s n m)))
 
   -- .. and there is less ahead
   pub nearer : ahead input (place_of t.outcome) h < ahead input at g
@@ -85,15 +83,10 @@ pub stopped-ran : (x : Ran) (input : List ℕ) (at : ℕ) (g : Progress) (n m : 
 stopped-ran x input at g n m stop e = rw (← e, stop) (record { run = refl; nodes = refl; statements = refl })
 
 -- a run that begins with the fresh state is the whole one
-module _ (set : Settings) (input n m : List ℕ) (b : Bool) (known : b ≡ dialect_is set.dialect) where
-  pub ran : b ≡ true → (r : Stop) (n' m' : List ℕ) (s : State) (g : Progress) → s ≡ fresh → g ≡ going_on set s → length input ≤ 16384 → Runs (whole input 0 g n m) r n' m' → Runs (run_of set input n m) r n' m'
-  unfolding run_of
-  ran so r n' m' s g e f h x = rw (← known, so, le-leb _ _ h) (subst (λ (k : Progress). Runs (whole input 0 k n m) r n' m') (f ∙ ap (going_on set) e) x)
+pub ran : (input n m : List ℕ) (r : Stop) (n' m' : List ℕ) (s : State) (g : Progress) → s ≡ fresh → g ≡ going_on s → length input ≤ 16384 → Runs (whole input 0 g n m) r n' m' → Runs (run_of input n m) r n' m'
+unfolding run_of
+ran input n m r n' m' s g e f h x = rw (le-leb _ _ h) (subst (λ (k : Progress). Runs (whole input 0 k n m) r n' m') (f ∙ ap going_on e) x)
 
-  pub too_long : b ≡ true → 16384 < length input → Runs (run_of set input n m) (record { state = fresh; number = 13; place = 0 }) n m
-  unfolding run_of
-  too_long so h = rw (← known, so, lt-leb _ _ h) (record { run = refl; nodes = refl; statements = refl })
-
-  pub no-dialect : b ≡ false → Runs (run_of set input n m) (record { state = fresh; number = 33; place = 0 }) n m
-  unfolding run_of
-  no-dialect so = rw (← known, so) (record { run = refl; nodes = refl; statements = refl })
+pub too_long : (input n m : List ℕ) → 16384 < length input → Runs (run_of input n m) (record { state = fresh; number = 13; place = 0 }) n m
+unfolding run_of
+too_long input n m h = rw (lt-leb _ _ h) (record { run = refl; nodes = refl; statements = refl })

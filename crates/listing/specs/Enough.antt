@@ -17,7 +17,6 @@ use Rattle.records.specs.declared.Refusal.TheVariants.{Short}
 use Rattle.records.specs.declared.Taken.{Taken}
 use Rattle.records.specs.declared.Outcome.{Outcome}
 use Rattle.records.specs.declared.Outcome.TheVariants.{Record, End, Refused}
-use Rattle.forms.specs.declared.Settings.{Settings}
 use Rattle.lifter.specs.Lift.{lift_of}
 use Rattle.listing.specs.Run.{Ran, after, lifted, run_from}
 
@@ -141,21 +140,21 @@ module _ (s : List ℕ) where
   past_end at h = rw (le-ltb at (length s) h)
 
   -- ONE MORE TURN THAN BYTES ARE LEFT MAKES NO DIFFERENCE
-  pub enough : (set : Settings) (k at : ℕ) (st : State) (n m : List ℕ) → length s ≤ at + k → run_from set k s at st n m ≡ run_from set (suc k) s at st n m
+  pub enough : (k at : ℕ) (st : State) (n m : List ℕ) → length s ≤ at + k → run_from k s at st n m ≡ run_from (suc k) s at st n m
   unfolding run_from
-  enough set zero at st n m h = rw (past_end at (omega arith))
-  enough set (suc k) at st n m h = by (taken_at s at).outcome refl (λ c o st n m. enough set k c.at st n m (omega (arith, record-onward at c o)))
+  enough zero at st n m h = rw (past_end at (omega arith))
+  enough (suc k) at st n m h = by (taken_at s at).outcome refl (λ c o st n m. enough k c.at st n m (omega (arith, record-onward at c o)))
     where
       b : Built
-      b = lift_of st set (taken_at s at).insn n m
+      b = lift_of st (taken_at s at).insn n m
 
       turn : (t : Bool) (x y z : Ran) → x ≡ y → cond t x z ≡ cond t y z
       turn true x y z e = e
       turn false x y z e = refl
 
-      by : (o : Outcome) → (taken_at s at).outcome ≡ o → ((c : Cursor) → (taken_at s at).outcome ≡ Record c → (st : State) (n m : List ℕ) → run_from set k s c.at st n m ≡ run_from set (suc k) s c.at st n m)
-          → after o st n m (λ next. lifted b n m at (λ st n m. run_from set k s next st n m))
-          ≡ after o st n m (λ next. lifted b n m at (λ st n m. run_from set (suc k) s next st n m))
+      by : (o : Outcome) → (taken_at s at).outcome ≡ o → ((c : Cursor) → (taken_at s at).outcome ≡ Record c → (st : State) (n m : List ℕ) → run_from k s c.at st n m ≡ run_from (suc k) s c.at st n m)
+          → after o st n m (λ next. lifted b n m at (λ st n m. run_from k s next st n m))
+          ≡ after o st n m (λ next. lifted b n m at (λ st n m. run_from (suc k) s next st n m))
       by (Record c) o f = turn (leb b.val 2) _ _ _ (f c o b.st (wrote n b.ns) (wrote m b.ss))
       by (End c) o f = refl
       by (Refused r p) o f = refl

@@ -1,4 +1,4 @@
--- The run over a whole input: its records are lifted one after the other by the same settings, up to the end mark or to the first refusal.
+-- The run over a whole input: its records are lifted one after the other, up to the end mark or to the first refusal.
 use Rattle.std.specs.Prelude.{◌≡◌, cond, List, ℕ, zero, suc, leb, length}
 use Rattle.lists.specs.Rows.{wrote}
 use Rattle.lists.specs.Steps.{Built}
@@ -8,10 +8,6 @@ use Rattle.records.specs.Format.{taken_at}
 use Rattle.records.specs.Numbers.{refusal_of}
 use Rattle.records.specs.declared.Outcome.{Outcome}
 use Rattle.records.specs.declared.Outcome.TheVariants.{Record, End, Refused}
-use Rattle.forms.specs.Classify.{dialect_is}
-use Rattle.forms.specs.Numbers as forms
-use Rattle.forms.specs.declared.Refusal.TheVariants.{BadDialect}
-use Rattle.forms.specs.declared.Settings.{Settings}
 use Rattle.lifter.specs.Lift.{lift_of}
 use Rattle.listing.specs.declared.Stop.{Stop}
 
@@ -39,18 +35,15 @@ abbrev pub lifted : Built → List ℕ → List ℕ → ℕ → (State → List 
 lifted b n m at on = cond (leb b.val 2) (on b.st (wrote n b.ns) (wrote m b.ss)) (ended b.st (wrote n b.ns) (wrote m b.ss) b.val at)
 
 -- at most k records from a place on; no input has more records than bytes
-unfoldable pub run_from : Settings → ℕ → List ℕ → ℕ → State → List ℕ → List ℕ → Ran
-run_from set zero input at s n m = ended s n m 12 (length input)
-run_from set (suc k) input at s n m =
+unfoldable pub run_from : ℕ → List ℕ → ℕ → State → List ℕ → List ℕ → Ran
+run_from zero input at s n m = ended s n m 12 (length input)
+run_from (suc k) input at s n m =
     after (taken_at input at).outcome s n m
-    (λ next. lifted (lift_of s set (taken_at input at).insn n m) n m at (λ s n m. run_from set k input next s n m))
+    (λ next. lifted (lift_of s (taken_at input at).insn n m) n m at (λ s n m. run_from k input next s n m))
 
--- 33 where there is no such dialect, before anything is read; 13 where the input is over 16,384 bytes
-unfoldable pub run_of : Settings → List ℕ → List ℕ → List ℕ → Ran
-run_of set input n m =
-    cond (dialect_is set.dialect)
-    (cond (leb (length input) 16384) (run_from set (length input) input 0 fresh n m) (ended fresh n m 13 0))
-    (ended fresh n m (forms.refusal_of BadDialect) 0)
+-- 13 where the input is over 16,384 bytes
+unfoldable pub run_of : List ℕ → List ℕ → List ℕ → Ran
+run_of input n m = cond (leb (length input) 16384) (run_from (length input) input 0 fresh n m) (ended fresh n m 13 0)
 
 -- what `run` gives back and leaves
 pub record Runs (x : Ran) (r : Stop) (n m : List ℕ) : Type 0 where

@@ -6,7 +6,6 @@ ghost use Rattle.listing.specs.Run.{Runs, run_from, run_of, stopped_at};
 ghost use Rattle.listing.specs.Inside.Turn.{Turned, goes, going_on, halted_at};
 ghost use Rattle.listing.specs.Listing.{Lists, text_of};
 
-use forms::{Refusal, Settings};
 use lists::State;
 use records::{Outcome, Taken};
 
@@ -25,12 +24,11 @@ pub enum Listed {
     Short,
 }
 
-// What a run has come to: where it stops if it stops here, whether it goes on, and the settings that it reads by.
+// What a run has come to: where it stops if it stops here, and whether it goes on.
 #[derive(Drop)]
 struct Progress {
     stop: Stop,
     on: bool,
-    settings: Settings,
 }
 
 fn stopped(state: State, number: u32, place: usize) -> Stop
@@ -44,8 +42,8 @@ fn stopped(state: State, number: u32, place: usize) -> Stop
 }
 
 // A run that has stopped.
-fn halted(settings: Settings, state: State, number: u32, place: usize) -> Progress
-    ensures { result ≡ halted_at settings state number place }
+fn halted(state: State, number: u32, place: usize) -> Progress
+    ensures { result ≡ halted_at state number place }
 {
     Progress {
         stop: Stop {
@@ -54,13 +52,12 @@ fn halted(settings: Settings, state: State, number: u32, place: usize) -> Progre
             place,
         },
         on: false,
-        settings,
     }
 }
 
 // A run that goes on.
-fn going(settings: Settings, state: State) -> Progress
-    ensures { result ≡ going_on settings state }
+fn going(state: State) -> Progress
+    ensures { result ≡ going_on state }
 {
     Progress {
         stop: Stop {
@@ -69,7 +66,6 @@ fn going(settings: Settings, state: State) -> Progress
             place: 0,
         },
         on: true,
-        settings,
     }
 }
 
@@ -81,30 +77,29 @@ fn turn<'a>(
     t: Taken,
     at: usize,
 ) -> Progress
-    ensures { Turned g.settings t at g.stop.state nodes.old statements.old result nodes.new statements.new }
+    ensures { Turned t at g.stop.state nodes.old statements.old result nodes.new statements.new }
 {
-    let settings = g.settings;
     let stop = g.stop;
     let s = stop.state;
     let insn = t.insn;
     let o = t.outcome;
     match o {
-        Outcome::End(_) => halted(settings, s, 0, 0),
-        Outcome::Refused(r, p) => halted(settings, s, records::refusal_number(r), p),
+        Outcome::End(_) => halted(s, 0, 0),
+        Outcome::Refused(r, p) => halted(s, records::refusal_number(r), p),
         Outcome::Record(_) => {
-            let done = lifter::lift(nodes, statements, s, settings, insn);
+            let done = lifter::lift(nodes, statements, s, insn);
             let after = done.state;
             if 2 < done.answer {
-                return halted(settings, after, done.answer, at);
+                return halted(after, done.answer, at);
             }
-            going(settings, after)
+            going(after)
         }
     }
 }
 
 // Lifts what one reader takes, turn by turn, until the run stops: proved by hand, since the reader is a local.
 fn turns(input: &[u8], nodes: &mut [u64], statements: &mut [u64], start: Progress) -> Progress
-    ensures { Runs (goes start nodes.old statements.old (run_from start.settings (length input.now) input.now 0)) result.stop nodes.new statements.new }
+    ensures { Runs (goes start nodes.old statements.old (run_from (length input.now) input.now 0)) result.stop nodes.new statements.new }
 {
     let mut r = reader::new(input);
     let mut g = start;
@@ -116,19 +111,16 @@ fn turns(input: &[u8], nodes: &mut [u64], statements: &mut [u64], start: Progres
     g
 }
 
-// Lifts the records of an input one after the other by the same settings, up to the end mark or to the first refusal.
-pub fn run(settings: Settings, input: &[u8], nodes: &mut [u64], statements: &mut [u64]) -> Stop
-    ensures { Runs (run_of settings input.now nodes.old statements.old) result nodes.new statements.new }
+// Lifts the records of an input one after the other, up to the end mark or to the first refusal.
+pub fn run(input: &[u8], nodes: &mut [u64], statements: &mut [u64]) -> Stop
+    ensures { Runs (run_of input.now nodes.old statements.old) result nodes.new statements.new }
 {
     let s = lists::new();
-    if forms::dialect_is(settings.dialect) {
-        if 16384 < input.len() {
-            return stopped(s, 13, 0);
-        }
-        let end = turns(input, nodes, statements, going(settings, s));
-        return end.stop;
+    if 16384 < input.len() {
+        return stopped(s, 13, 0);
     }
-    stopped(s, forms::refusal_number(Refusal::BadDialect), 0)
+    let end = turns(input, nodes, statements, going(s));
+    end.stop
 }
 
 // Writes the listing of a run over these lists, or nothing where it does not fit.

@@ -1,5 +1,5 @@
 // Rows of four words in lent lists, the state of a lift, and its stack.
-ghost use Rattle.std.specs.Prelude.{◌≡◌, cond, [], ◌∷◌, ◌-◌, ◌<◌, ltb};
+ghost use Rattle.std.specs.Prelude.{◌≡◌, [], ◌∷◌, ◌-◌, ◌<◌};
 ghost use Rattle.lists.specs.Rows.{row, wrote, up, room_of};
 ghost use Rattle.lists.specs.Steps.{Did, Told};
 ghost use Rattle.lists.specs.Nodes.{node_of, statement_of, input_counted, temporary_counted, fresh_of, temporary_of};
@@ -311,23 +311,16 @@ pub fn exchange(nodes: &mut [u64], s: State, index: u32) -> State
     write(nodes, t, index, top.at)
 }
 
-// What the number at a place is below: the count of nodes where the place is used, else 1. One compare then tests both.
-fn bound(i: u32, depth: u32, nodes: u32) -> u32
-    ensures { result ≡ cond (ltb i depth) nodes 1 }
-{
-    if i < depth {
-        return nodes;
-    }
-    1
-}
-
 // Whether a place is as a valid state has it.
 fn sound(s: State, i: u32) -> bool
     requires { i < 8 }
     ensures { result ≡ sound_of s i }
 {
     let x = s.slots[i as usize];
-    x < bound(i, s.depth, s.nodes)
+    if i < s.depth {
+        return x < s.nodes;
+    }
+    x == 0
 }
 
 // Whether all eight places are.

@@ -116,16 +116,16 @@ fn list_equal(list: &[u64], from: usize, rows: &[u8]) -> bool {
     false
 }
 
-// A row: 177 bytes of an instruction, the answer, eight form words, seven flags of its effect, the detail, the settings.
+// A row: 177 bytes of an instruction, the answer, eight form words, seven flags of its effect, the detail.
 fn instruction_equal(head: &[u8]) -> bool
-    requires { length head.now ≡ 290 }
+    requires { length head.now ≡ 289 }
 {
     let mut words = [1u64; 8];
     let mut flags = [2u64; 7];
     let mut detail = [1u64; 1];
-    let a = export::x87_classify(&head[250..251], &head[0..177], &mut words);
-    let b = export::x87_effect(&head[250..251], &head[0..177], &mut flags);
-    let c = export::x87_why(&head[250..251], &head[0..177], &mut detail);
+    let a = export::x87_classify(&head[0..177], &mut words);
+    let b = export::x87_effect(&head[0..177], &mut flags);
+    let c = export::x87_why(&head[0..177], &mut detail);
     if a as u64 == wide(head[177]) {
         if a == b {
             if a == c {
@@ -142,7 +142,7 @@ fn instruction_equal(head: &[u8]) -> bool
 
 // A row's head: input length and start place (two bytes each), answer, place (two bytes), record or not, 177 bytes of its instruction; then the input.
 fn record_equal(head: &[u8], input: &[u8]) -> bool
-    requires { length head.now ≡ 290 }
+    requires { length head.now ≡ 289 }
 {
     let mut flat = [0u8; 177];
     let mut out = [2u64; 2];
@@ -161,7 +161,7 @@ fn record_equal(head: &[u8], input: &[u8]) -> bool
 
 // The state before a lift.
 fn state_before(head: &[u8]) -> [u64; 13]
-    requires { length head.now ≡ 290 }
+    requires { length head.now ≡ 289 }
 {
     let mut w = [0u64; 13];
     let mut i = 0;
@@ -174,7 +174,7 @@ fn state_before(head: &[u8]) -> [u64; 13]
 
 // Whether both lists have the rows of a tail, each from the count of the state before on.
 fn lists_equal(head: &[u8], tail: &[u8], nodes: &[u64; 4096], statements: &[u64; 4096]) -> bool
-    requires { length head.now ≡ 290 }
+    requires { length head.now ≡ 289 }
 {
     let split = 32 * wide(head[286]) as usize;
     let first = 4 * words::bytes::four(head, 36) as usize;
@@ -188,9 +188,9 @@ fn lists_equal(head: &[u8], tail: &[u8], nodes: &[u64; 4096], statements: &[u64;
     false
 }
 
-// A row's head: state before (13 numbers of four bytes), rooms of both lists (two bytes each), 177 bytes of the instruction, answer, state after, how many rows each list gains, the detail, the settings; then those rows.
+// A row's head: state before (13 numbers of four bytes), rooms of both lists (two bytes each), 177 bytes of the instruction, answer, state after, how many rows each list gains, the detail; then those rows.
 fn lift_equal(head: &[u8], tail: &[u8]) -> bool
-    requires { length head.now ≡ 290 }
+    requires { length head.now ≡ 289 }
 {
     let first = 4 * two(head, 52);
     let second = 4 * two(head, 54);
@@ -205,7 +205,6 @@ fn lift_equal(head: &[u8], tail: &[u8]) -> bool
     let mut statements = [0u64; 4096];
     let mut detail = [1u64; 1];
     let answer = export::x87_lift(
-        &head[289..290],
         &head[56..233],
         &mut state,
         &mut nodes[0..first],
@@ -224,7 +223,7 @@ fn lift_equal(head: &[u8], tail: &[u8]) -> bool
 
 // A row's head: answer, first bad node, count and number of words (two bytes each); then the words.
 fn check_equal(head: &[u8], tail: &[u8]) -> bool
-    requires { length head.now ≡ 290 }
+    requires { length head.now ≡ 289 }
 {
     let count = two(head, 3);
     let size = two(head, 5);
@@ -243,7 +242,7 @@ fn check_equal(head: &[u8], tail: &[u8]) -> bool
 
 // Whether an evaluation gives a row's answer and node, and leaves these bytes' words in the column.
 fn column_equal(head: &[u8], nodes: &[u64], given: &[u64], column: &mut [u64], after: &[u8]) -> bool
-    requires { length head.now ≡ 290 }
+    requires { length head.now ≡ 289 }
 {
     let mut out = [0u64; 1];
     let answer = export::values::x87_evaluate(nodes, two(head, 3), given, column, &mut out);
@@ -257,7 +256,7 @@ fn column_equal(head: &[u8], nodes: &[u64], given: &[u64], column: &mut [u64], a
 
 // A row's head: answer, node, count, and how many words the list, the given and the lent column have; then those words.
 fn value_equal(head: &[u8], tail: &[u8]) -> bool
-    requires { length head.now ≡ 290 }
+    requires { length head.now ≡ 289 }
 {
     let first = two(head, 5);
     let second = two(head, 7);
@@ -292,7 +291,7 @@ fn value_equal(head: &[u8], tail: &[u8]) -> bool
 
 // A row: an image, the free pattern's two words, the answer, the pattern's two words, and the image written from it; a refused pattern is 0, and so is its image.
 fn image_equal(head: &[u8]) -> bool
-    requires { length head.now ≡ 290 }
+    requires { length head.now ≡ 289 }
 {
     let mut out = [1u64; 2];
     let mut image = [0u8; 10];
@@ -313,7 +312,7 @@ fn image_equal(head: &[u8]) -> bool
 
 // Whether a row's answers are the calls' own.
 fn row_equal(file: File, head: &[u8], tail: &[u8]) -> bool
-    requires { length head.now ≡ 290 }
+    requires { length head.now ≡ 289 }
 {
     match file {
         File::Instructions => instruction_equal(head),
@@ -325,14 +324,14 @@ fn row_equal(file: File, head: &[u8], tail: &[u8]) -> bool
     }
 }
 
-// How many bytes a row's head has, of the 290 that are lent for any.
+// How many bytes a row's head has, of the 289 that are lent for any.
 fn head_size(file: File) -> usize
-    ensures { result ≤ 290 }
+    ensures { result ≤ 289 }
 {
     match file {
-        File::Instructions => 251,
+        File::Instructions => 250,
         File::Records => 185,
-        File::Lifts => 290,
+        File::Lifts => 289,
         File::Checks => 7,
         File::Values => 11,
         File::Images => 53,
@@ -354,7 +353,7 @@ fn words_size(a: usize, b: usize, c: usize) -> usize
 }
 
 // How many bytes follow a row's head.
-fn tail_size(file: File, head: &[u8; 290]) -> usize
+fn tail_size(file: File, head: &[u8; 289]) -> usize
     ensures { result < 65536 }
 {
     match file {
@@ -368,7 +367,7 @@ fn tail_size(file: File, head: &[u8; 290]) -> usize
 }
 
 // Reads a row's tail, which fills a part, and compares.
-fn rest(fd: i32, file: File, head: &[u8; 290], part: &mut [u8]) -> Turn {
+fn rest(fd: i32, file: File, head: &[u8; 289], part: &mut [u8]) -> Turn {
     let got = io::read_full(fd, part);
     if got < part.len() {
         return Turn::Different;
@@ -381,7 +380,7 @@ fn rest(fd: i32, file: File, head: &[u8; 290], part: &mut [u8]) -> Turn {
 
 // Reads a row and compares.
 fn next_turn(fd: i32, file: File) -> Turn {
-    let mut head = [0u8; 290];
+    let mut head = [0u8; 289];
     let mut tail = io::large_buffer();
     let size = head_size(file);
     let n = io::read_full(fd, &mut head[0..size]);

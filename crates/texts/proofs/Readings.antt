@@ -1,6 +1,6 @@
 -- Laws of the reading of a place, as its functions read a text from left to right.
 use mathlib.Core.Path.{◌≡◌, refl, sym, ◌∙◌, ap}
-use mathlib.Core.Bool.{Bool, true, false, cond, ◌&&◌, and-false}
+use mathlib.Core.Bool.{cond}
 use mathlib.Core.List.{List, [], ◌∷◌}
 use Prim.Native.Nat.{ℕ, suc, ◌+◌, ◌*◌, ◌-◌, ◌<◌, ◌≤◌}
 use native.Mathlib.Numerals.{add-one}
@@ -10,8 +10,8 @@ use lib.ListN.{length, take, drop, get_or, drop_of_length-le}
 use lib.Seq.{drop-cons}
 use borrow.Author.Tests.{lt-ltb, le-ltb, le-leb, lt-leb, eq-eqb, ne_eqb}
 use Rattle.texts.specs.Bytes.{bytes}
-use Rattle.texts.specs.Letters.{lower_of, trim_of, same_letters}
-use Rattle.texts.specs.Places.{digit_of, digits, number, signed, bracketed, bare_is, place_of}
+use Rattle.texts.specs.Letters.{lower_of, trim_of}
+use Rattle.texts.specs.Places.{digit_of, digits, number, signed, after, place_of}
 use Rattle.texts.specs.declared.Place.{Place}
 use Rattle.texts.specs.declared.Place.TheVariants.{At, Nowhere}
 use Rattle.texts.proofs.Trims.{tail_all, cond_same}
@@ -58,45 +58,36 @@ pub signed-off : (s : List ℕ) → (get_or s 0 0 ≡ 43 → ⊥) → signed s �
 signed-off [] e = refl
 signed-off (x ∷ s) e = rw (ne_eqb _ _ e)
 
-pub named-short : (s : List ℕ) → length s < 3 → bracketed s ≡ Nowhere
+-- the text behind `st(`
+abbrev named : List ℕ → Place
+named s = after (bytes "st(") signed s
+
+pub named-short : (s : List ℕ) → length s < 3 → named s ≡ Nowhere
 named-short [] h = refl
 named-short (x ∷ []) h = simp cond_same
 named-short (x ∷ y ∷ []) h = simp cond_same
 named-short (x ∷ y ∷ z ∷ s) h = absurd (omega arith)
 
 named-at : (s : List ℕ) → 3 ≤ length s
-    → bracketed s ≡ cond (eqb (lower_of (get_or s 0 0)) 115) (cond (eqb (lower_of (get_or s 1 0)) 116) (cond (eqb (lower_of (get_or s 2 0)) 40) (signed (drop 3 s)) Nowhere) Nowhere) Nowhere
+    → named s ≡ cond (eqb (lower_of (get_or s 0 0)) 115) (cond (eqb (lower_of (get_or s 1 0)) 116) (cond (eqb (lower_of (get_or s 2 0)) 40) (signed (drop 3 s)) Nowhere) Nowhere) Nowhere
 named-at [] h = absurd (omega arith)
 named-at (x ∷ []) h = absurd (omega arith)
 named-at (x ∷ y ∷ []) h = absurd (omega arith)
 named-at (x ∷ y ∷ z ∷ s) h = refl
 
 module _ (s : List ℕ) (h : 3 ≤ length s) (a b c : ℕ) where
-  pub named-0 : a ≡ lower_of (get_or s 0 0) → (a ≡ 115 → ⊥) → bracketed s ≡ Nowhere
+  pub named-0 : a ≡ lower_of (get_or s 0 0) → (a ≡ 115 → ⊥) → named s ≡ Nowhere
   named-0 q e = named-at s h ∙ rw (← q, ne_eqb _ _ e)
 
-  pub named-1 : b ≡ lower_of (get_or s 1 0) → (b ≡ 116 → ⊥) → bracketed s ≡ Nowhere
+  pub named-1 : b ≡ lower_of (get_or s 1 0) → (b ≡ 116 → ⊥) → named s ≡ Nowhere
   named-1 q e = named-at s h ∙ rw (← q, ne_eqb _ _ e) (simp cond_same)
 
-  pub named-2 : c ≡ lower_of (get_or s 2 0) → (c ≡ 40 → ⊥) → bracketed s ≡ Nowhere
+  pub named-2 : c ≡ lower_of (get_or s 2 0) → (c ≡ 40 → ⊥) → named s ≡ Nowhere
   named-2 q e = named-at s h ∙ rw (← q, ne_eqb _ _ e) (simp cond_same)
 
-  pub named-on : a ≡ lower_of (get_or s 0 0) → b ≡ lower_of (get_or s 1 0) → c ≡ lower_of (get_or s 2 0) → a ≡ 115 → b ≡ 116 → c ≡ 40 → bracketed s ≡ signed (take (length s - 3) (drop 3 s))
+  pub named-on : a ≡ lower_of (get_or s 0 0) → b ≡ lower_of (get_or s 1 0) → c ≡ lower_of (get_or s 2 0) → a ≡ 115 → b ≡ 116 → c ≡ 40 → named s ≡ signed (take (length s - 3) (drop 3 s))
   named-on qa qb qc ea eb ec = named-at s h ∙ rw (← qa, ← qb, ← qc, eq-eqb _ _ ea, eq-eqb _ _ eb, eq-eqb _ _ ec, tail_all s 3)
 
--- `st` alone is shorter than a text with a bracket
-no_bare : (s : List ℕ) → 3 ≤ length s → same_letters s (bytes "st") ≡ false
-no_bare [] h = absurd (omega arith)
-no_bare (x ∷ []) h = absurd (omega arith)
-no_bare (x ∷ y ∷ []) h = absurd (omega arith)
-no_bare (x ∷ y ∷ z ∷ s) h = rw (and-false, and-false)
-
--- a text of two letters at most is `st` alone, or no place
-pub placed-short : (d : ℕ) (s t : List ℕ) (b : Bool) (p : Place) → t ≡ trim_of s → b ≡ bare_is d t → length t < 3 → p ≡ cond b (At 0) Nowhere → p ≡ place_of d s
+pub placed : (s t : List ℕ) (p : Place) → t ≡ trim_of s → named t ≡ p → p ≡ place_of s
 unfolding place_of
-placed-short d s t b p e q h r = r ∙ rw (← e, ← q, named-short t h)
-
--- a longer one has its number in brackets
-pub placed : (d : ℕ) (s t : List ℕ) (p : Place) → t ≡ trim_of s → 3 ≤ length t → bracketed t ≡ p → p ≡ place_of d s
-unfolding place_of
-placed d s t p e h q = sym q ∙ rw (← e, no_bare t h, and-false)
+placed s t p e q = sym q ∙ ap named e

@@ -1,7 +1,7 @@
--- The place on the stack that a text names: `st(`, an optional `+`, one or more digits, `)`, of value 0 to 7; in dialect 1 also `st` alone, which is place 0.
-use Rattle.std.specs.Prelude.{Bool, cond, ◌&&◌, List, [], ◌∷◌, ℕ, ◌+◌, ◌*◌, ◌-◌, leb, ltb, eqb}
+-- The place on the stack that a text names: `st(`, an optional `+`, one or more digits, `)`, of value 0 to 7.
+use Rattle.std.specs.Prelude.{cond, List, [], ◌∷◌, ℕ, ◌+◌, ◌*◌, ◌-◌, leb, ltb, eqb}
 use Rattle.texts.specs.Bytes.{bytes}
-use Rattle.texts.specs.Letters.{lower_of, trim_of, same_letters}
+use Rattle.texts.specs.Letters.{lower_of, trim_of}
 use Rattle.texts.specs.declared.Place.{Place}
 use Rattle.texts.specs.declared.Place.TheVariants.{At, Nowhere}
 
@@ -35,14 +35,5 @@ after [] k s = k s
 after (b ∷ p) k [] = Nowhere
 after (b ∷ p) k (x ∷ s) = cond (eqb (lower_of x) b) (after p k s) Nowhere
 
--- the place with its number in brackets
-abbrev pub bracketed : List ℕ → Place
-bracketed t = after (bytes "st(") signed t
-
--- `st` alone, in dialect 1
-abbrev pub bare_is : ℕ → List ℕ → Bool
-bare_is d t = eqb d 1 && same_letters t (bytes "st")
-
--- THE PLACE THAT A TEXT NAMES in dialect d, blanks at its ends ignored
-unfoldable pub place_of : ℕ → List ℕ → Place
-place_of d s = cond (bare_is d (trim_of s)) (At 0) (bracketed (trim_of s))
+unfoldable pub place_of : List ℕ → Place
+place_of s = after (bytes "st(") signed (trim_of s)

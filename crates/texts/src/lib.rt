@@ -2,7 +2,7 @@
 ghost use Rattle.std.specs.Prelude.{◌≡◌, ◌<◌, ◌≤◌, length, take, drop};
 ghost use Rattle.texts.specs.Bytes.{bytes_of, valid_of};
 ghost use Rattle.texts.specs.Letters.{lower_of, blank_is, skip, cut, trim_of, same_letters};
-ghost use Rattle.texts.specs.Places.{digit_of, digits, number, signed, bare_is, place_of};
+ghost use Rattle.texts.specs.Places.{digit_of, digits, number, signed, place_of};
 
 // A text by value: its first `len` bytes.
 #[derive(Drop)]
@@ -167,25 +167,12 @@ fn signed_of(s: &[u8]) -> Place
     number_of(s)
 }
 
-// Whether a trimmed text is `st` alone, in the dialect that has it.
-fn bare(s: &[u8], dialect: u8) -> bool
-    ensures { result ≡ bare_is dialect s.now }
-{
-    if dialect == 1 {
-        return eq_ignore_ascii_case(s, b"st");
-    }
-    false
-}
-
-// The place on the stack that a text names in a dialect: in 1 `st` alone is place 0.
-pub fn slot_index(s: &[u8], dialect: u8) -> Place
-    ensures { result ≡ place_of dialect s.now }
+// The place on the stack that a text names.
+pub fn slot_index(s: &[u8]) -> Place
+    ensures { result ≡ place_of s.now }
 {
     let t = trim(s);
     if t.len() < 3 {
-        if bare(t, dialect) {
-            return Place::At(0);
-        }
         return Place::Nowhere;
     }
     if lower(t[0]) == 115 {
@@ -199,21 +186,21 @@ pub fn slot_index(s: &[u8], dialect: u8) -> Place
 }
 
 // The place that the first `n` bytes of `b` name.
-fn slot_index_in(b: [u8; 32], n: usize, dialect: u8) -> Place
-    ensures { result ≡ place_of dialect (take n b) }
+fn slot_index_in(b: [u8; 32], n: usize) -> Place
+    ensures { result ≡ place_of (take n b) }
 {
     if n <= 32 {
-        return slot_index(&b[..n], dialect);
+        return slot_index(&b[..n]);
     }
-    slot_index(&b, dialect)
+    slot_index(&b)
 }
 
 // The place that a text by value names.
-pub fn slot_index_text(t: Text, dialect: u8) -> Place
-    ensures { result ≡ place_of dialect (bytes_of t) }
+pub fn slot_index_text(t: Text) -> Place
+    ensures { result ≡ place_of (bytes_of t) }
 {
     let b = t.bytes;
-    slot_index_in(b, t.len, dialect)
+    slot_index_in(b, t.len)
 }
 
 // Whether a text is within its 32 bytes and has no byte over 127.

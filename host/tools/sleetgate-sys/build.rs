@@ -20,8 +20,7 @@ const SERVED: &str = "src/served.c";
 const ANEW: &str = "make it anew by `rt staticlib export`";
 
 /// The calls that the library has to export.
-const CALLS: [&str; 13] = [
-    "x87_settings",
+const CALLS: [&str; 12] = [
     "x87_classify",
     "x87_why",
     "x87_effect",

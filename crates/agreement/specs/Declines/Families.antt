@@ -1,4 +1,4 @@
--- Family by family, in any dialect: what it makes of its operands is a decline exactly if they have a detail
+-- Family by family: what it makes of its operands is a decline exactly if they have a detail
 use Rattle.std.specs.Prelude.{◌≡◌, Bool, cond, ◌&&◌, List, ℕ}
 use Rattle.std.proofs.Math.Path.{refl, ap}
 use Rattle.std.proofs.Common.{sym, ◌∙◌, true≢false}
@@ -21,7 +21,7 @@ use Rattle.forms.specs.declared.StoreSpec.{StoreSpec}
 use Rattle.forms.specs.declared.X87Arith.{X87Arith}
 use Rattle.forms.specs.declared.X87Condition.{X87Condition}
 use Rattle.forms.specs.declared.Classified.{Classified}
-use Rattle.forms.specs.declared.Classified.TheVariants.{Modelled, Declined, Refused}
+use Rattle.forms.specs.declared.Classified.TheVariants.{Modelled, Declined, BadText, BadOperands}
 use Rattle.forms.specs.declared.Form.TheVariants.{StoreStatus}
 use Rattle.forms.specs.declared.Family.{Family}
 use Rattle.forms.specs.declared.Family.TheVariants as family
@@ -37,17 +37,18 @@ use Rattle.details.proofs.Shapes.{by_number}
 abbrev pub declined_is : Classified → Bool
 declined_is (Modelled f) = false
 declined_is Declined = true
-declined_is (Refused r) = false
+declined_is BadText = false
+declined_is BadOperands = false
 
 -- a detail is there
 unfoldable pub some_is : ℕ → Bool
 some_is k = not (eqb k 0)
 
-module _ (d : ℕ) (o : Operand) where
+module _ (o : Operand) where
   -- where a place is taken
-  of-place : (at : Place → Classified) → ((i : ℕ) → declined_is (at (At i)) ≡ false) → declined_is (at Nowhere) ≡ true → declined_is (at (slot_of d o)) ≡ some_is (why_one d place o)
+  of-place : (at : Place → Classified) → ((i : ℕ) → declined_is (at (At i)) ≡ false) → declined_is (at Nowhere) ≡ true → declined_is (at (slot_of o)) ≡ some_is (why_one place o)
   unfolding some_is
-  of-place at taken left = rw (place-why d o) (way (slot_of d o))
+  of-place at taken left = rw (place-why o) (way (slot_of o))
     where
       way : (p : Place) → declined_is (at p) ≡ not (eqb (cond (place_is p) 0 23) 0)
       way (At i) = taken i
@@ -55,9 +56,9 @@ module _ (d : ℕ) (o : Operand) where
 
   -- where memory is
   of-memory : (ws : Widths) (at : Width → Classified) → ((w : ℕ) → declined_is (at (Bits w)) ≡ false) → declined_is (at Unmodelled) ≡ true
-      → declined_is (at (width_of ws o)) ≡ some_is (why_one d (memory (widths_of ws)) o)
+      → declined_is (at (width_of ws o)) ≡ some_is (why_one (memory (widths_of ws)) o)
   unfolding some_is width_of
-  of-memory ws at taken left = rw (memory-why d o ws) (way (eqb o.kind 1) (eqb o.known 1) (takes_of ws o.width))
+  of-memory ws at taken left = rw (memory-why o ws) (way (eqb o.kind 1) (eqb o.known 1) (takes_of ws o.width))
     where
       way : (m k t : Bool) → declined_is (at (cond (m && (k && t)) (Bits o.width) Unmodelled)) ≡ not (eqb (cond m (memory_why k t) 23) 0)
       way true true true = taken o.width
@@ -67,9 +68,9 @@ module _ (d : ℕ) (o : Operand) where
 
   -- where either is; where memory is, and a register is declined
   of_either : (ws : Widths) (at : Place → Width → Classified) → ((i : ℕ) (w : Width) → declined_is (at (At i) w) ≡ false) → ((w : ℕ) → declined_is (at Nowhere (Bits w)) ≡ false)
-      → declined_is (at Nowhere Unmodelled) ≡ true → declined_is (at (slot_of d o) (width_of ws o)) ≡ some_is (why_one d (place-or (widths_of ws)) o)
+      → declined_is (at Nowhere Unmodelled) ≡ true → declined_is (at (slot_of o) (width_of ws o)) ≡ some_is (why_one (place-or (widths_of ws)) o)
   unfolding some_is width_of slot_of
-  of_either ws at taken fits left = rw (place-or-why d o ws, place-why d o, memory-why d o ws) (way (eqb o.kind 0) (eqb o.kind 1) (eqb o.known 1) (takes_of ws o.width) (place_of d (bytes_of o.text)) (kinds o))
+  of_either ws at taken fits left = rw (place-or-why o ws, place-why o, memory-why o ws) (way (eqb o.kind 0) (eqb o.kind 1) (eqb o.known 1) (takes_of ws o.width) (place_of (bytes_of o.text)) (kinds o))
     where
       way : (r m k t : Bool) (p : Place) → (r ≡ true → m ≡ false) → declined_is (at (cond r p Nowhere) (cond (m && (k && t)) (Bits o.width) Unmodelled))
           ≡ not (eqb (cond r (cond (place_is (cond r p Nowhere)) 0 23) (cond m (memory_why k t) 23)) 0)
@@ -82,9 +83,9 @@ module _ (d : ℕ) (o : Operand) where
       way false false k t p h = left
 
   of-integer : (ws : Widths) (at : Place → Width → Classified) → ((i : ℕ) (w : Width) → declined_is (at (At i) w) ≡ true) → ((w : ℕ) → declined_is (at Nowhere (Bits w)) ≡ false)
-      → declined_is (at Nowhere Unmodelled) ≡ true → declined_is (at (slot_of d o) (width_of ws o)) ≡ some_is (why_one d (memory (widths_of ws)) o)
+      → declined_is (at Nowhere Unmodelled) ≡ true → declined_is (at (slot_of o) (width_of ws o)) ≡ some_is (why_one (memory (widths_of ws)) o)
   unfolding some_is width_of slot_of
-  of-integer ws at never fits left = rw (memory-why d o ws) (way (eqb o.kind 0) (eqb o.kind 1) (eqb o.known 1) (takes_of ws o.width) (place_of d (bytes_of o.text)) (kinds o))
+  of-integer ws at never fits left = rw (memory-why o ws) (way (eqb o.kind 0) (eqb o.kind 1) (eqb o.known 1) (takes_of ws o.width) (place_of (bytes_of o.text)) (kinds o))
     where
       way : (r m k t : Bool) (p : Place) → (r ≡ true → m ≡ false) → declined_is (at (cond r p Nowhere) (cond (m && (k && t)) (Bits o.width) Unmodelled)) ≡ not (eqb (cond m (memory_why k t) 23) 0)
       way true true k t p h = absurd (true≢false (h refl))
@@ -95,87 +96,87 @@ module _ (d : ℕ) (o : Operand) where
       way false true false t p h = left
       way false false k t p h = left
 
-  loads : (f : MemFormat) (ws : Widths) → declined_is (load_at f (slot_of d o) (width_of ws o)) ≡ some_is (why_only d (moved_one f ws) o)
+  loads : (f : MemFormat) (ws : Widths) → declined_is (load_at f (slot_of o) (width_of ws o)) ≡ some_is (why_only (moved_one f ws) o)
   unfolding why_only
   loads Float ws = of_either ws (load_at Float) (λ i w. refl) (λ w. refl) refl
   loads Integer ws = of-integer ws (load_at Integer) (λ i w. refl) (λ w. refl) refl
 
-  stores : (spec : StoreSpec) → declined_is (store_at spec (slot_of d o) (width_of spec.widths o)) ≡ some_is (why_only d (moved_one spec.format spec.widths) o)
+  stores : (spec : StoreSpec) → declined_is (store_at spec (slot_of o) (width_of spec.widths o)) ≡ some_is (why_only (moved_one spec.format spec.widths) o)
   unfolding why_only
   stores spec = way spec.format refl
     where
-      same : {f g : MemFormat} → f ≡ g → some_is (why_only d (moved_one f spec.widths) o) ≡ some_is (why_only d (moved_one g spec.widths) o)
-      same e = ap (λ (f : MemFormat). some_is (why_only d (moved_one f spec.widths) o)) e
+      same : {f g : MemFormat} → f ≡ g → some_is (why_only (moved_one f spec.widths) o) ≡ some_is (why_only (moved_one g spec.widths) o)
+      same e = ap (λ (f : MemFormat). some_is (why_only (moved_one f spec.widths) o)) e
 
-      way : (f : MemFormat) → spec.format ≡ f → declined_is (store_at spec (slot_of d o) (width_of spec.widths o)) ≡ some_is (why_only d (moved_one spec.format spec.widths) o)
+      way : (f : MemFormat) → spec.format ≡ f → declined_is (store_at spec (slot_of o) (width_of spec.widths o)) ≡ some_is (why_only (moved_one spec.format spec.widths) o)
       way Float e = of_either spec.widths (store_at spec) (λ i w. rw e) (λ w. refl) refl ∙ same (sym e)
       way Integer e = of-integer spec.widths (store_at spec) (λ i w. rw e) (λ w. refl) refl ∙ same (sym e)
 
-  compares : (p : ℕ) (m : MemorySource) → declined_is (status_at p m (slot_of d o) (width_of FloatShort o)) ≡ some_is (why_only d (compared_one m) o)
+  compares : (p : ℕ) (m : MemorySource) → declined_is (status_at p m (slot_of o) (width_of FloatShort o)) ≡ some_is (why_only (compared_one m) o)
   unfolding why_only
   compares p Allowed = of_either FloatShort (status_at p Allowed) (λ i w. refl) (λ w. refl) refl
   compares p Forbidden = of-place (λ (q : Place). status_at p Forbidden q (width_of FloatShort o)) (λ i. refl) refl
 
-  pops : (op : X87Arith) (rev : Bool) → declined_is (arith_one op rev true (slot_of d o) (width_of FloatShort o)) ≡ some_is (why_one d place o)
+  pops : (op : X87Arith) (rev : Bool) → declined_is (arith_one op rev true (slot_of o) (width_of FloatShort o)) ≡ some_is (why_one place o)
   pops op rev = of-place (λ (q : Place). arith_one op rev true q (width_of FloatShort o)) (λ i. refl) refl
 
-  status-stores : declined_is (store_status_at o) ≡ some_is (why_one d (ax-or (widths_of StatusWidth)) o)
+  status-stores : declined_is (store_status_at o) ≡ some_is (why_one (ax-or (widths_of StatusWidth)) o)
   unfolding some_is store_status_at
-  status-stores = rw (ax-or-why d o StatusWidth) (way (eqb o.kind 0) (ax_of (bytes_of o.text)))
+  status-stores = rw (ax-or-why o StatusWidth) (way (eqb o.kind 0) (ax_of (bytes_of o.text)))
     where
-      way : (r t : Bool) → declined_is (cond r (cond t (Modelled StoreStatus) Declined) (status_to (width_of StatusWidth o))) ≡ not (eqb (cond r (cond t 0 23) (why_one d (memory (widths_of StatusWidth)) o)) 0)
+      way : (r t : Bool) → declined_is (cond r (cond t (Modelled StoreStatus) Declined) (status_to (width_of StatusWidth o))) ≡ not (eqb (cond r (cond t 0 23) (why_one (memory (widths_of StatusWidth)) o)) 0)
       way true true = refl
       way true false = refl
       way false t = of-memory StatusWidth status_to (λ w. refl) refl
 
 -- two places, of which the first may be bound to be the top
-module _ (d : ℕ) (a b : Operand) where
-  moves : (k : X87Condition) → declined_is (conditional_at k (slot_of d a) (slot_of d b)) ≡ some_is (why_two d st0 place a b)
+module _ (a b : Operand) where
+  moves : (k : X87Condition) → declined_is (conditional_at k (slot_of a) (slot_of b)) ≡ some_is (why_two st0 place a b)
   unfolding some_is
-  moves k = rw (two-why d st0-alone places a b, st0-why d a, place-why d b) (way (slot_of d a) (slot_of d b))
+  moves k = rw (two-why st0-alone places a b, st0-why a, place-why b) (way (slot_of a) (slot_of b))
     where
-      top : (t : Bool) (j : ℕ) → eqb j 0 ≡ t → (q : Place) → declined_is (conditional_at k (At j) q) ≡ not (eqb (both_of (cond t 0 23) (cond (place_is q) 0 23)) 0)
-      top true j e (At i) = rw e
-      top true j e Nowhere = refl
-      top false j e (At i) = rw e
-      top false j e Nowhere = refl
+      top : (t : Bool) (d : ℕ) → eqb d 0 ≡ t → (q : Place) → declined_is (conditional_at k (At d) q) ≡ not (eqb (both_of (cond t 0 23) (cond (place_is q) 0 23)) 0)
+      top true d e (At i) = rw e
+      top true d e Nowhere = refl
+      top false d e (At i) = rw e
+      top false d e Nowhere = refl
 
       way : (p q : Place) → declined_is (conditional_at k p q) ≡ not (eqb (both_of (cond (top_is p) 0 23) (cond (place_is q) 0 23)) 0)
-      way (At j) q = top (eqb j 0) j refl q
+      way (At d) q = top (eqb d 0) d refl q
       way Nowhere q = refl
 
-  pairs : (op : X87Arith) (rev pop : Bool) → declined_is (arith_two op rev pop (slot_of d a) (slot_of d b)) ≡ some_is (why_two d place place a b)
+  pairs : (op : X87Arith) (rev pop : Bool) → declined_is (arith_two op rev pop (slot_of a) (slot_of b)) ≡ some_is (why_two place place a b)
   unfolding some_is
-  pairs op rev pop = rw (two-why d places places a b, place-why d a, place-why d b) (way (slot_of d a) (slot_of d b))
+  pairs op rev pop = rw (two-why places places a b, place-why a, place-why b) (way (slot_of a) (slot_of b))
     where
       way : (p q : Place) → declined_is (arith_two op rev pop p q) ≡ not (eqb (both_of (cond (place_is p) 0 23) (cond (place_is q) 0 23)) 0)
-      way (At j) (At i) = refl
-      way (At j) Nowhere = refl
+      way (At d) (At i) = refl
+      way (At d) Nowhere = refl
       way Nowhere q = refl
 
 -- EVERY FAMILY, of any number of operands
-module _ (d : ℕ) (os : List Operand) where
+module _ (os : List Operand) where
   Exact : Family → ℕ → Type 0
-  Exact f n = declined_is (form_of d f (operands_of n os)) ≡ some_is (why_by d (shape_of f) n os)
+  Exact f n = declined_is (form_of f (operands_of n os)) ≡ some_is (why_by (shape_of f) n os)
 
   exact : (f : Family) (n : ℕ) → Exact f n
   unfolding Exact form_of shape_of why_by why_only why_pair some_is
   exact (family.Plain f) n = by_number (Exact (family.Plain f)) refl refl refl (λ n a b c. rw (a, b, c)) n
-  exact family.Exchange n = by_number (Exact family.Exchange) refl (of-place d _ exchange_at (λ i. refl) refl) refl (λ n a b c. rw (a, b, c)) n
-  exact (family.Load f ws) n = by_number (Exact (family.Load f ws)) refl (loads d _ f ws) refl (λ n a b c. rw (a, b, c)) n
-  exact (family.Store spec) n = by_number (Exact (family.Store spec)) refl (stores d _ spec) refl (λ n a b c. rw (a, b, c)) n
-  exact (family.StatusCompare p m) n = by_number (Exact (family.StatusCompare p m)) refl (compares d _ p m) refl (λ n a b c. rw (a, b, c)) n
+  exact family.Exchange n = by_number (Exact family.Exchange) refl (of-place _ exchange_at (λ i. refl) refl) refl (λ n a b c. rw (a, b, c)) n
+  exact (family.Load f ws) n = by_number (Exact (family.Load f ws)) refl (loads _ f ws) refl (λ n a b c. rw (a, b, c)) n
+  exact (family.Store spec) n = by_number (Exact (family.Store spec)) refl (stores _ spec) refl (λ n a b c. rw (a, b, c)) n
+  exact (family.StatusCompare p m) n = by_number (Exact (family.StatusCompare p m)) refl (compares _ p m) refl (λ n a b c. rw (a, b, c)) n
   exact family.PairedCompare n = by_number (Exact family.PairedCompare) refl refl refl (λ n a b c. rw (a, b, c)) n
-  exact (family.FlagCompare pop) n = by_number (Exact (family.FlagCompare pop)) refl (of-place d _ (flag_at pop) (λ i. refl) refl) (of-place d _ (flag_at pop) (λ i. refl) refl) (λ n a b c. rw (a, b, c)) n
-  exact family.StoreStatus n = by_number (Exact family.StoreStatus) refl (status-stores d _) refl (λ n a b c. rw (a, b, c)) n
-  exact (family.ConditionalMove k) n = by_number (Exact (family.ConditionalMove k)) refl refl (moves d _ _ k) (λ n a b c. rw (a, b, c)) n
+  exact (family.FlagCompare pop) n = by_number (Exact (family.FlagCompare pop)) refl (of-place _ (flag_at pop) (λ i. refl) refl) (of-place _ (flag_at pop) (λ i. refl) refl) (λ n a b c. rw (a, b, c)) n
+  exact family.StoreStatus n = by_number (Exact family.StoreStatus) refl (status-stores _) refl (λ n a b c. rw (a, b, c)) n
+  exact (family.ConditionalMove k) n = by_number (Exact (family.ConditionalMove k)) refl refl (moves _ _ k) (λ n a b c. rw (a, b, c)) n
   exact (family.IntegerArith op rev) n =
-      by_number (Exact (family.IntegerArith op rev)) refl (of-memory d _ IntArith (integer_arith_of op rev) (λ w. refl) refl) refl (λ n a b c. rw (a, b, c)) n
-  exact (family.IntegerCompare p) n = by_number (Exact (family.IntegerCompare p)) refl (of-memory d _ IntArith (integer_compare_of p) (λ w. refl) refl) refl (λ n a b c. rw (a, b, c)) n
-  exact (family.Arith op rev true) n = by_number (Exact (family.Arith op rev true)) refl (pops d _ op rev) (pairs d _ _ op rev true) (λ n a b c. rw (a, b, c)) n
-  exact (family.Arith op rev false) n = by_number (Exact (family.Arith op rev false)) refl (of_either d _ FloatShort (arith_one op rev false) (λ i w. refl) (λ w. refl) refl) (pairs d _ _ op rev false) (λ n a b c. rw (a, b, c)) n
+      by_number (Exact (family.IntegerArith op rev)) refl (of-memory _ IntArith (integer_arith_of op rev) (λ w. refl) refl) refl (λ n a b c. rw (a, b, c)) n
+  exact (family.IntegerCompare p) n = by_number (Exact (family.IntegerCompare p)) refl (of-memory _ IntArith (integer_compare_of p) (λ w. refl) refl) refl (λ n a b c. rw (a, b, c)) n
+  exact (family.Arith op rev true) n = by_number (Exact (family.Arith op rev true)) refl (pops _ op rev) (pairs _ _ op rev true) (λ n a b c. rw (a, b, c)) n
+  exact (family.Arith op rev false) n = by_number (Exact (family.Arith op rev false)) refl (of_either _ FloatShort (arith_one op rev false) (λ i w. refl) (λ w. refl) refl) (pairs _ _ op rev false) (λ n a b c. rw (a, b, c)) n
   exact family.Unknown n = refl
 
-pub exactly : (d : ℕ) (f : Family) (n : ℕ) (os : List Operand) → declined_is (form_of d f (operands_of n os)) ≡ some_is (why_by d (shape_of f) n os)
+pub exactly : (f : Family) (n : ℕ) (os : List Operand) → declined_is (form_of f (operands_of n os)) ≡ some_is (why_by (shape_of f) n os)
 unfolding Exact
-exactly d f n os = exact d os f n
+exactly f n os = exact os f n

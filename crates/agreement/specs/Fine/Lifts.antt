@@ -19,8 +19,7 @@ use Rattle.forms.specs.declared.Form.{Form}
 use Rattle.forms.specs.declared.Form.TheVariants.{PushConst, PushMemory, PushSlot, StoreMemory, StoreSlot, Arith, CompareStatus, CompareFlags, ConditionalMove, StoreStatus, Exchange, Unary}
 use Rattle.forms.specs.declared.Instruction.{Instruction}
 use Rattle.forms.specs.declared.Classified.{Classified}
-use Rattle.forms.specs.declared.Classified.TheVariants.{Modelled, Declined, Refused}
-use Rattle.forms.specs.Numbers.{refusal_of}
+use Rattle.forms.specs.declared.Classified.TheVariants.{Modelled, Declined, BadText, BadOperands}
 use Rattle.forms.specs.Classify.{classify_of}
 use Rattle.details.specs.Why.{why_of}
 use Rattle.exprs.specs.Formats.{format_of, is_image}
@@ -31,7 +30,6 @@ use Rattle.moves.specs.Pushes.{decline_x87_of, land_of, push_const_of, push_slot
 use Rattle.lifter.specs.Apply.{apply_x87_of}
 use Rattle.lifter.specs.Lift.{lowered_of}
 use Rattle.memory.specs.Site.{site_of}
-use Rattle.agreement.specs.Runs.{Asked, lowered_at}
 use Rattle.agreement.specs.Demands.{is_wide, demanded}
 use Rattle.agreement.specs.Fits.{memory_fits, is_memory, source_fits, form_fits, first_of, no_register}
 use Rattle.agreement.specs.Fits.Classified.{classify-fits}
@@ -276,12 +274,13 @@ apply-fine i s StoreStatus e = store-status i s
 apply-fine i s (Exchange index) e = exchange s index (leb-true index 7 e)
 apply-fine i s (Unary op) e = unary-fine s op
 
--- EVERY INSTRUCTION, by any settings, over lists of any length
-pub lowered-fine : (i : Asked) (s : State) → Fine s [] 0 (lowered_at s i)
+-- EVERY INSTRUCTION, over lists of any length
+pub lowered-fine : (i : Instruction) (s : State) → Fine s [] 0 (lowered_of s (classify_of i) (why_of i) (site_of i))
 unfolding lowered_of
-lowered-fine i s = way (classify_of i.settings i.insn) refl
+lowered-fine i s = way (classify_of i) refl
   where
-    way : (c : Classified) → classify_of i.settings i.insn ≡ c → Fine s [] 0 (lowered_of s c (why_of i.settings i.insn) (site_of i.insn))
-    way (Modelled form) e = apply-fine i.insn s form (classify-fits i.settings i.insn form e)
-    way Declined e = decline s 1 i.insn.address (why_of i.settings i.insn) (detail-listed i.settings i.insn e)
-    way (Refused r) e = still (refusal_of r) [] (λ Γ p h. p)
+    way : (c : Classified) → classify_of i ≡ c → Fine s [] 0 (lowered_of s c (why_of i) (site_of i))
+    way (Modelled form) e = apply-fine i s form (classify-fits i form e)
+    way Declined e = decline s 1 i.address (why_of i) (detail-listed i e)
+    way BadText e = still 3 [] (λ Γ p h. p)
+    way BadOperands e = still 4 [] (λ Γ p h. p)

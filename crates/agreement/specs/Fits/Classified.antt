@@ -8,7 +8,7 @@ use Rattle.std.proofs.Math.Dec.{eqb}
 use Rattle.words.specs.Tests.{and_l, and_r, and_i, or_l, or_r, or_case}
 use Rattle.texts.specs.Bytes.{bytes, bytes_of, all, valid_of}
 use Rattle.texts.specs.Letters.{lower_of, trim_of, same_letters}
-use Rattle.texts.specs.Places.{digit_of, closed, digits, number, signed, after, bare_is, place_of}
+use Rattle.texts.specs.Places.{digit_of, closed, digits, number, signed, after, place_of}
 use Rattle.texts.specs.declared.Place.{Place}
 use Rattle.texts.specs.declared.Place.TheVariants.{At, Nowhere}
 use Rattle.forms.specs.declared.Operand.{Operand}
@@ -26,16 +26,14 @@ use Rattle.forms.specs.declared.X87Condition.{X87Condition}
 use Rattle.forms.specs.declared.Form.{Form}
 use Rattle.forms.specs.declared.Form.TheVariants.{PushConst, PushMemory, PushSlot, StoreMemory, StoreSlot, Arith, CompareStatus, CompareFlags, ConditionalMove, StoreStatus, Exchange, Unary}
 use Rattle.forms.specs.declared.Instruction.{Instruction}
-use Rattle.forms.specs.declared.Settings.{Settings}
 use Rattle.forms.specs.declared.Classified.{Classified}
-use Rattle.forms.specs.declared.Classified.TheVariants.{Modelled, Declined, Refused}
-use Rattle.forms.specs.declared.Refusal.TheVariants.{BadText, BadOperands, BadDialect}
+use Rattle.forms.specs.declared.Classified.TheVariants.{Modelled, Declined, BadText, BadOperands}
 use Rattle.forms.specs.declared.Family.{Family}
 use Rattle.forms.specs.declared.Family.TheVariants as family
 use Rattle.forms.specs.Operands.{Operands, none, one, two, more, ranged_is, spelled_is, slot_of, width_of, widths_of, among, takes_of, ax_of, operands_of, no_operand}
 use Rattle.forms.specs.Names.{Name, names, find, family_of}
 use Rattle.forms.specs.Families.{load_at, store_slot, store_at, status_at, flag_at, exchange_at, conditional_at, status_to, store_status_at, integer_arith_of, integer_compare_of, arith_one, arith_two, form_of}
-use Rattle.forms.specs.Classify.{dialect_is, classify_of}
+use Rattle.forms.specs.Classify.{classify_of}
 use Rattle.agreement.specs.Fits.{memory_fits, is_memory, source_fits, form_fits, first_of}
 
 -- A place is 0 to 7
@@ -74,13 +72,9 @@ after-fits [] s = signed-fits s
 after-fits (b ∷ p) [] = tt
 after-fits (b ∷ p) (x ∷ s) = either PlaceFits (eqb (lower_of x) b) _ _ (λ _. after-fits p s) tt
 
-place-fits : (d : ℕ) (s : List ℕ) → PlaceFits (place_of d s)
-unfolding PlaceFits place_of
-place-fits d s = either PlaceFits (bare_is d (trim_of s)) _ _ (λ _. refl) (after-fits (bytes "st(") (trim_of s))
-
-slot-fits : (d : ℕ) (o : Operand) → PlaceFits (slot_of d o)
-unfolding PlaceFits slot_of
-slot-fits d o = either PlaceFits (eqb o.kind 0) _ _ (λ _. place-fits d (bytes_of o.text)) tt
+slot-fits : (o : Operand) → PlaceFits (slot_of o)
+unfolding PlaceFits slot_of place_of
+slot-fits o = either PlaceFits (eqb o.kind 0) _ _ (λ _. after-fits (bytes "st(") (trim_of (bytes_of o.text))) tt
 
 -- A width is one that the table lists, and its operand's, which is memory
 WidthFits : Widths → Operand → Width → Type 0
@@ -163,7 +157,8 @@ find-fits s (n ∷ ns) e = way (same_letters s n.text) (find-fits s ns (and_r (f
 Fits : Operand → Classified → Type 0
 Fits o (Modelled f) = form_fits o f ≡ true
 Fits o Declined = Unit {0}
-Fits o (Refused r) = Unit {0}
+Fits o BadText = Unit {0}
+Fits o BadOperands = Unit {0}
 
 module _ (o : Operand) where
   exchange-fits : (p : Place) → PlaceFits p → Fits o (exchange_at p)
@@ -274,35 +269,35 @@ plain_fits_lem StoreStatus o e = absurd (false≢true e)
 plain_fits_lem (Exchange i) o e = absurd (false≢true e)
 plain_fits_lem (Unary op) o e = refl
 
-form-fits : (d : ℕ) (o : Operand) (f : Family) → family_fits f ≡ true → (s : Operands) → Aims o s → Fits o (form_of d f s)
+form-fits : (o : Operand) (f : Family) → family_fits f ≡ true → (s : Operands) → Aims o s → Fits o (form_of f s)
 unfolding Fits form_of family_fits form_fits source_fits
-form-fits d o (family.Plain f) e = by_count (form_of d (family.Plain f)) o (plain_fits_lem f o e) tt (λ a b. tt) tt
-form-fits d o family.Exchange e = by_count (form_of d family.Exchange) o refl (exchange-fits o (slot_of d o) (slot-fits d o)) (λ a b. tt) tt
-form-fits d o (family.Load format ws) e =
-    by_count (form_of d (family.Load format ws)) o tt (load_fits o format ws (slot_of d o) (width_of ws o) e (slot-fits d o) (width_fits ws o)) (λ a b. tt) tt
-form-fits d o (family.Store spec) e =
-    by_count (form_of d (family.Store spec)) o tt (store-fits o spec (slot_of d o) (width_of spec.widths o) e (slot-fits d o) (width_fits spec.widths o)) (λ a b. tt) tt
-form-fits d o (family.StatusCompare pops m) e =
-    by_count (form_of d (family.StatusCompare pops m)) o refl (status-fits o pops m (slot_of d o) (width_of FloatShort o) (slot-fits d o) (width_fits FloatShort o)) (λ a b. tt) tt
-form-fits d o family.PairedCompare e = by_count (form_of d family.PairedCompare) o refl tt (λ a b. tt) tt
-form-fits d o (family.FlagCompare pop) e =
-    by_count (form_of d (family.FlagCompare pop)) o tt (flag-fits o pop (slot_of d o) (slot-fits d o)) (λ a b. flag-fits o pop (slot_of d b) (slot-fits d b)) tt
-form-fits d o family.StoreStatus e = by_count (form_of d family.StoreStatus) o tt (store-status-fits o) (λ a b. tt) tt
-form-fits d o (family.ConditionalMove k) e =
-    by_count (form_of d (family.ConditionalMove k)) o tt tt (λ a b. conditional-fits o k (slot_of d a) (slot_of d b) (slot-fits d b)) tt
-form-fits d o (family.IntegerArith op reversed) e =
-    by_count (form_of d (family.IntegerArith op reversed)) o tt (integer-arith-fits o op reversed (width_of IntArith o) (width_fits IntArith o)) (λ a b. tt) tt
-form-fits d o (family.IntegerCompare pops) e =
-    by_count (form_of d (family.IntegerCompare pops)) o tt (integer-compare-fits o pops (width_of IntArith o) (width_fits IntArith o)) (λ a b. tt) tt
-form-fits d o (family.Arith op reversed pop) e =
-    by_count (form_of d (family.Arith op reversed pop)) o (alone pop)
-    (arith-one-fits o op reversed pop (slot_of d o) (width_of FloatShort o) (slot-fits d o) (width_fits FloatShort o))
-    (λ a b. arith-two-fits o op reversed pop (slot_of d a) (slot_of d b) (slot-fits d a) (slot-fits d b)) tt
+form-fits o (family.Plain f) e = by_count (form_of (family.Plain f)) o (plain_fits_lem f o e) tt (λ a b. tt) tt
+form-fits o family.Exchange e = by_count (form_of family.Exchange) o refl (exchange-fits o (slot_of o) (slot-fits o)) (λ a b. tt) tt
+form-fits o (family.Load format ws) e =
+    by_count (form_of (family.Load format ws)) o tt (load_fits o format ws (slot_of o) (width_of ws o) e (slot-fits o) (width_fits ws o)) (λ a b. tt) tt
+form-fits o (family.Store spec) e =
+    by_count (form_of (family.Store spec)) o tt (store-fits o spec (slot_of o) (width_of spec.widths o) e (slot-fits o) (width_fits spec.widths o)) (λ a b. tt) tt
+form-fits o (family.StatusCompare pops m) e =
+    by_count (form_of (family.StatusCompare pops m)) o refl (status-fits o pops m (slot_of o) (width_of FloatShort o) (slot-fits o) (width_fits FloatShort o)) (λ a b. tt) tt
+form-fits o family.PairedCompare e = by_count (form_of family.PairedCompare) o refl tt (λ a b. tt) tt
+form-fits o (family.FlagCompare pop) e =
+    by_count (form_of (family.FlagCompare pop)) o tt (flag-fits o pop (slot_of o) (slot-fits o)) (λ a b. flag-fits o pop (slot_of b) (slot-fits b)) tt
+form-fits o family.StoreStatus e = by_count (form_of family.StoreStatus) o tt (store-status-fits o) (λ a b. tt) tt
+form-fits o (family.ConditionalMove k) e =
+    by_count (form_of (family.ConditionalMove k)) o tt tt (λ a b. conditional-fits o k (slot_of a) (slot_of b) (slot-fits b)) tt
+form-fits o (family.IntegerArith op reversed) e =
+    by_count (form_of (family.IntegerArith op reversed)) o tt (integer-arith-fits o op reversed (width_of IntArith o) (width_fits IntArith o)) (λ a b. tt) tt
+form-fits o (family.IntegerCompare pops) e =
+    by_count (form_of (family.IntegerCompare pops)) o tt (integer-compare-fits o pops (width_of IntArith o) (width_fits IntArith o)) (λ a b. tt) tt
+form-fits o (family.Arith op reversed pop) e =
+    by_count (form_of (family.Arith op reversed pop)) o (alone pop)
+    (arith-one-fits o op reversed pop (slot_of o) (width_of FloatShort o) (slot-fits o) (width_fits FloatShort o))
+    (λ a b. arith-two-fits o op reversed pop (slot_of a) (slot_of b) (slot-fits a) (slot-fits b)) tt
   where
-    alone : (pop : Bool) → Fits o (form_of d (family.Arith op reversed pop) none)
+    alone : (pop : Bool) → Fits o (form_of (family.Arith op reversed pop) none)
     alone true = refl
     alone false = tt
-form-fits d o family.Unknown e = by_count (form_of d family.Unknown) o tt tt (λ a b. tt) tt
+form-fits o family.Unknown e = by_count (form_of family.Unknown) o tt tt (λ a b. tt) tt
 
 -- The records below the count, of which the first is the one that a lift reads and writes
 aims : (count : ℕ) (s : List Operand) → Aims (get_or s 0 no_operand) (operands_of count s)
@@ -316,22 +311,19 @@ aims count s = way (eqb count 0) (eqb count 1) (eqb count 2)
     way false false false = tt
 
 -- EVERY FORM THAT CLASSIFY GIVES FITS
-classified : (set : Settings) (i : Instruction) → Fits (first_of i) (classify_of set i)
+classified : (i : Instruction) → Fits (first_of i) (classify_of i)
 unfolding Fits classify_of family_of
-classified set i =
-    way (dialect_is set.dialect) (leb i.count 3 && all ranged_is (take i.count i.operands)) (valid_of i.mnemonic && all spelled_is (take i.count i.operands))
+classified i =
+    way (leb i.count 3 && all ranged_is (take i.count i.operands)) (valid_of i.mnemonic && all spelled_is (take i.count i.operands))
   where
-    form : Classified
-    form = form_of set.dialect (family_of (bytes_of i.mnemonic)) (operands_of i.count i.operands)
-
-    way : (d x y : Bool) → Fits (first_of i) (cond d (cond x (cond y form (Refused BadText)) (Refused BadOperands)) (Refused BadDialect))
-    way true true true =
-        form-fits set.dialect (first_of i) (family_of (bytes_of i.mnemonic)) (find-fits (trim_of (bytes_of i.mnemonic)) names names-fit)
+    way : (x y : Bool)
+        → Fits (first_of i) (cond x (cond y (form_of (family_of (bytes_of i.mnemonic)) (operands_of i.count i.operands)) BadText) BadOperands)
+    way true true =
+        form-fits (first_of i) (family_of (bytes_of i.mnemonic)) (find-fits (trim_of (bytes_of i.mnemonic)) names names-fit)
         (operands_of i.count i.operands) (aims i.count i.operands)
-    way true true false = tt
-    way true false y = tt
-    way false x y = tt
+    way true false = tt
+    way false y = tt
 
-pub classify-fits : (set : Settings) (i : Instruction) (f : Form) → classify_of set i ≡ Modelled f → form_fits (first_of i) f ≡ true
+pub classify-fits : (i : Instruction) (f : Form) → classify_of i ≡ Modelled f → form_fits (first_of i) f ≡ true
 unfolding Fits
-classify-fits set i f e = subst (Fits (first_of i)) e (classified set i)
+classify-fits i f e = subst (Fits (first_of i)) e (classified i)

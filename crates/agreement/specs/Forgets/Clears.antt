@@ -13,15 +13,16 @@ use Rattle.forms.specs.declared.Form.{Form}
 use Rattle.forms.specs.declared.Form.TheVariants.{PushConst, PushMemory, PushSlot, StoreMemory, StoreSlot, Arith, CompareStatus, CompareFlags, ConditionalMove, StoreStatus, Exchange, Unary}
 use Rattle.forms.specs.declared.Instruction.{Instruction}
 use Rattle.forms.specs.declared.Classified.{Classified}
-use Rattle.forms.specs.declared.Classified.TheVariants.{Modelled, Declined, Refused}
-use Rattle.forms.specs.declared.Refusal.TheVariants.{BadText, BadOperands, BadDialect}
+use Rattle.forms.specs.declared.Classified.TheVariants.{Modelled, Declined, BadText, BadOperands}
+use Rattle.forms.specs.Classify.{classify_of}
+use Rattle.details.specs.Why.{why_of}
 use Rattle.memory.specs.Memory.{write_dst_of, x87_store_memory_of, x87_store_status_of}
 use Rattle.moves.specs.Moves.{x87_arith_of, x87_compare_status_of, x87_compare_flags_of, x87_conditional_move_of, x87_unary_of, store_slot_of}
 use Rattle.moves.specs.Pushes.{decline_x87_of, land_of, push_const_of, push_slot_of, push_memory_of}
 use Rattle.lifter.specs.Apply.{apply_x87_of}
 use Rattle.lifter.specs.Lift.{lowered_of}
 use Rattle.memory.specs.Site.{site_of}
-use Rattle.agreement.specs.Runs.{Asked, Held, declines, answered, stepped, called}
+use Rattle.agreement.specs.Runs.{Held, declines, answered, stepped, called}
 use Rattle.agreement.specs.Added.{by-lift}
 
 -- Where a step's answer is a decline, no place is used
@@ -67,18 +68,17 @@ module _ (i : Instruction) (s : State) where
   apply-clears (Exchange index) = never
   apply-clears (Unary op) = never
 
-  lowered-clears : (c : Classified) (detail : ℕ) → Clears (lowered_of s c detail (site_of i))
+  lowered-clears : (c : Classified) → Clears (lowered_of s c (why_of i) (site_of i))
   unfolding lowered_of decline_x87_of statement_of havoc_of gives ◌▸◌
-  lowered-clears (Modelled form) detail = apply-clears form
-  lowered-clears Declined detail = λ e. refl
-  lowered-clears (Refused BadText) detail = never
-  lowered-clears (Refused BadOperands) detail = never
-  lowered-clears (Refused BadDialect) detail = never
+  lowered-clears (Modelled form) = apply-clears form
+  lowered-clears Declined = λ e. refl
+  lowered-clears BadText = never
+  lowered-clears BadOperands = never
 
-module _ (i : Asked) (h : Held) where
+module _ (i : Instruction) (h : Held) where
   pub decline-clears : declines (answered h i) ≡ true → (called h i).st.depth ≡ 0
   unfolding called stepped gives
-  decline-clears = by-lift Clears h i never never never (λ _ _. lowered-clears i.insn h.st _ _)
+  decline-clears = by-lift Clears h i never never never (λ _ _. lowered-clears i h.st (classify_of i))
 
   -- Nor is a state declined that is not valid
   pub decline-valid : declines (answered h i) ≡ true → valid_of h.st (room_of (length h.nodes)) (room_of (length h.statements)) ≡ true

@@ -18,7 +18,6 @@ use Rattle.forms.specs.Classify.{classify_of}
 use Rattle.forms.specs.declared.Classified.TheVariants.{Modelled}
 use Rattle.forms.specs.declared.Form.TheVariants.{PushMemory, StoreMemory}
 use Rattle.forms.specs.declared.Instruction.{Instruction}
-use Rattle.forms.specs.declared.Settings.{Settings}
 use Rattle.forms.specs.declared.MemFormat.TheVariants.{Float}
 use Rattle.forms.specs.declared.RoundingMode.{RoundingMode}
 use Rattle.memory.specs.Memory.{top_of, write_dst_of, x87_store_memory_of, x87_memory_read_of}
@@ -33,7 +32,6 @@ use Rattle.image.specs.Answers as image
 use Rattle.image.specs.declared.Found.TheVariants.{Pattern}
 use Rattle.sorts.specs.Lists.{sorts}
 use Rattle.evaluator.specs.Lists.{pair_at, vals}
-use Rattle.agreement.specs.Runs.{asks}
 use Rattle.agreement.specs.InWords.{InWords, front, back}
 use Rattle.agreement.specs.Values.{Has, sort-at, value-at}
 use Rattle.agreement.specs.Applied.{applied}
@@ -94,29 +92,29 @@ module _ (s : State) (i : Instruction) (pop : Bool) where
         value = value-at w g x.val x.st.nodes m.counted ∙ m.node.value;
       }
 
-module _ (s : State) (set : Settings) (i : Instruction) (nodes statements g : List ℕ) where
+module _ (s : State) (i : Instruction) (nodes statements g : List ℕ) where
   abbrev lift : Built
-  lift = lift_of s set i nodes statements
+  lift = lift_of s i nodes statements
 
   abbrev words : List ℕ
   words = wrote nodes lift.ns
 
   -- `fld` AT 80 READS AS `image` DOES: its free pattern is the value of the free input that the load adds
-  pub fld-80 : classify_of set i ≡ Modelled (PushMemory 80 Float) → lift.val ≡ 0 → pair_at g s.nodes < 2 ^ 80 → Loads s i lift words g
+  pub fld-80 : classify_of i ≡ Modelled (PushMemory 80 Float) → lift.val ≡ 0 → pair_at g s.nodes < 2 ^ 80 → Loads s i lift words g
   unfolding apply_x87_of
   fld-80 c z k =
-      let a = applied s (asks set i) nodes statements (PushMemory 80 Float) c z in
+      let a = applied s i nodes statements (PushMemory 80 Float) c z in
       subst (λ (d : Built). Loads s i d (wrote nodes d.ns) g) (sym a.same)
       (pushes s i (wrote nodes (apply_x87_of s (PushMemory 80 Float) (site_of i)).ns) g a.few k
       (subst (λ (d : Built). d.val ≡ 0) a.same z) (subst (λ (d : Built). InWords (wrote nodes d.ns) d.ns) a.same a.stands))
 
   -- `fstp` AT 80 WRITES AS `image` DOES
-  pub fstp-80 : (pop : Bool) (r : RoundingMode) → classify_of set i ≡ Modelled (StoreMemory 80 Float pop r) → (site_of i).register ≡ false → lift.val ≡ 0
+  pub fstp-80 : (pop : Bool) (r : RoundingMode) → classify_of i ≡ Modelled (StoreMemory 80 Float pop r) → (site_of i).register ≡ false → lift.val ≡ 0
       → get_or (sorts words lift.st.nodes) (read_of s 0).val 0 ≡ 79 → get_or (vals words g lift.st.nodes) (read_of s 0).val 0 < 2 ^ 79
       → Stores s i lift words g
   unfolding apply_x87_of
   fstp-80 pop r c m z sort fits =
-      let a = applied s (asks set i) nodes statements (StoreMemory 80 Float pop r) c z in
+      let a = applied s i nodes statements (StoreMemory 80 Float pop r) c z in
       let e : lift ≡ stored s i pop = a.same ∙ store_is s i pop r m in
       subst (λ (d : Built). Stores s i d (wrote nodes d.ns) g) (sym e)
       (stores s i pop (wrote nodes (stored s i pop).ns) g a.top a.few

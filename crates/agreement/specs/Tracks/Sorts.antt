@@ -6,11 +6,12 @@ use Rattle.std.proofs.lemmas.List.{get_or_at}
 use Rattle.lists.specs.Rows.{room_of}
 use Rattle.lists.specs.Stack.{fresh, havoc_of}
 use Rattle.lists.specs.Valid.{valid_of}
+use Rattle.forms.specs.declared.Instruction.{Instruction}
 use Rattle.sorts.specs.Lists.{row_sort, sorts}
 use Rattle.sorts.specs.Check.{check_of}
 use Rattle.sorts.specs.Laws.{Passes, sorts-suc, length-sorts, take-sorts, sorted-passes, passed-sorted, passed-room}
 use Rattle.sorts.specs.declared.Verdict.TheVariants.{Passed}
-use Rattle.agreement.specs.Runs.{Asked, Held, begun, ran}
+use Rattle.agreement.specs.Runs.{Held, begun, ran}
 use Rattle.agreement.specs.Demands.{demanded_at}
 use Rattle.agreement.specs.Fine.{Placed}
 use Rattle.agreement.specs.Fine.Stack.{cleared}
@@ -56,7 +57,7 @@ unfolding havoc_of
 fresh-placed = cleared [] fresh refl (omega arith)
 
 -- A run from the fresh state
-pub run-tracked : (nodes statements : List ℕ) (is : List Asked) → Followed [] 0 (ran (begun nodes statements) is)
+pub run-tracked : (nodes statements : List ℕ) (is : List Instruction) → Followed [] 0 (ran (begun nodes statements) is)
 run-tracked nodes statements is =
     run-follows is (record { sorts = []; tracks = tracks-from [] (begun nodes statements) fresh-placed (omega arith) (omega arith) })
 

@@ -14,6 +14,9 @@ enum_told c = search rules
 enum-told-2 : tie.Need-enum-told-2
 enum-told-2 c = search rules
 
+enum-told-3 : tie.Need-enum-told-3
+enum-told-3 c = search rules
+
 returns : tie.Need-returns
 returns c = rw c.before.before.a.given.1 c.flags.ensures
 
@@ -23,6 +26,9 @@ returns-2 c = search rules
 returns-3 : tie.Need-returns-3
 returns-3 c = search rules
 
+returns-4 : tie.Need-returns-4
+returns-4 c = search rules
+
 pub effect-fields-spec : {M : Type 1} → statement M
 effect-fields-spec =
     tie.close
@@ -31,6 +37,8 @@ effect-fields-spec =
     flags-requires
     enum_told
     enum-told-2
+    enum-told-3
     returns
     returns-2
-    returns-3)
+    returns-3
+    returns-4)

@@ -16,16 +16,16 @@ ax-requires : tie.Need-ax-requires
 ax-requires c κs = search rules
 
 returns : tie.Need-returns
-returns c d = rw (ax-or-why d _ _, eq-eqb _ _ c.before.before.before.before.before.before.if1.true, ← (c.before.ax.ensures ∙ ap ax_of c.before.before.first.ensures), c.if2.true)
+returns c = rw (ax-or-why _ _, eq-eqb _ _ c.before.before.before.before.before.before.if1.true, ← (c.before.ax.ensures ∙ ap ax_of c.before.before.first.ensures), c.if2.true)
 
 returns-2 : tie.Need-returns-2
-returns-2 c d = rw (ax-or-why d _ _, eq-eqb _ _ c.before.before.before.before.before.before.if1.true, ← (c.before.ax.ensures ∙ ap ax_of c.before.before.first.ensures), c.if2.false)
+returns-2 c = rw (ax-or-why _ _, eq-eqb _ _ c.before.before.before.before.before.before.if1.true, ← (c.before.ax.ensures ∙ ap ax_of c.before.before.first.ensures), c.if2.false)
 
 memory-requires : tie.Need-memory-requires
 memory-requires c κs = search rules
 
 returns-3 : tie.Need-returns-3
-returns-3 c d = rw (ax-or-why d _ _, ne_eqb _ _ c.before.if1.false) (c.memory.ensures d)
+returns-3 c = rw (ax-or-why _ _, ne_eqb _ _ c.before.if1.false) c.memory.ensures
 
 pub ax-or-spec : {M : Type 1} → statement M
 ax-or-spec =

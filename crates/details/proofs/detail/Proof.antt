@@ -15,6 +15,9 @@ why-requires c κs = search rules
 enum-told-3 : tie.Need-enum-told-3
 enum-told-3 c = search rules
 
+enum-told-4 : tie.Need-enum-told-4
+enum-told-4 c = search rules
+
 returns : tie.Need-returns
 unfolding detail_for
 returns c = simp c.enum_told.given.1
@@ -27,6 +30,10 @@ returns-3 : tie.Need-returns-3
 unfolding detail_for
 returns-3 c = simp c.enum-told3.given.1
 
+returns-4 : tie.Need-returns-4
+unfolding detail_for
+returns-4 c = simp c.enum-told4.given.1
+
 pub detail-spec : {M : Type 1} → statement M
 detail-spec =
     tie.close
@@ -35,6 +42,8 @@ detail-spec =
     enum-told-2
     why-requires
     enum-told-3
+    enum-told-4
     returns
     returns-2
-    returns-3)
+    returns-3
+    returns-4)

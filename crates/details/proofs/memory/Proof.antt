@@ -11,10 +11,10 @@ memory-detail-requires : tie.Need-memory-detail-requires
 memory-detail-requires c κs = search rules
 
 returns : tie.Need-returns
-returns c d = rw (memory-why d _ _, eq-eqb _ _ c.before.before.before.if1.true, ← c.before.takes.ensures) c.memory-detail.ensures
+returns c = rw (memory-why _ _, eq-eqb _ _ c.before.before.before.if1.true, ← c.before.takes.ensures) c.memory-detail.ensures
 
 returns-2 : tie.Need-returns-2
-returns-2 c d = rw (memory-why d _ _, ne_eqb _ _ c.if1.false)
+returns-2 c = rw (memory-why _ _, ne_eqb _ _ c.if1.false)
 
 pub memory-spec : {M : Type 1} → statement M
 memory-spec = tie.close (tie.spec takes-requires memory-detail-requires returns returns-2)

@@ -44,11 +44,11 @@ returns-3 c = simp c.before.before.one.given.1 c.place-or.ensures
 
 returns-4 : tie.Need-returns-4
 unfolding why_only
-returns-4 c = simp c.before.before.one2.given.1 (c.memory.ensures _)
+returns-4 c = simp c.before.before.one2.given.1 c.memory.ensures
 
 returns-5 : tie.Need-returns-5
 unfolding why_only
-returns-5 c = simp c.before.before.one3.given.1 (c.ax-or.ensures _)
+returns-5 c = simp c.before.before.one3.given.1 c.ax-or.ensures
 
 pub only-spec : {M : Type 1} → statement M
 only-spec =

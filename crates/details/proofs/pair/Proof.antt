@@ -48,11 +48,11 @@ returns-2 c = simp c.before.enum-told2.given.1 c.place.ensures
 
 returns-3 : tie.Need-returns-3
 unfolding why_pair
-returns-3 c = rw (c.before.before.before.enum-told3.given.1, two-why _ st0-alone places _ _, ← c.before.before.top.ensures, ← c.before.place2.ensures) c.both.ensures
+returns-3 c = rw (c.before.before.before.enum-told3.given.1, two-why st0-alone places _ _, ← c.before.before.top.ensures, ← c.before.place2.ensures) c.both.ensures
 
 returns-4 : tie.Need-returns-4
 unfolding why_pair
-returns-4 c = rw (c.before.before.before.enum-told4.given.1, two-why _ places places _ _, ← c.before.before.place3.ensures, ← c.before.place4.ensures) c.both2.ensures
+returns-4 c = rw (c.before.before.before.enum-told4.given.1, two-why places places _ _, ← c.before.before.place3.ensures, ← c.before.place4.ensures) c.both2.ensures
 
 pub pair_spec : {M : Type 1} → statement M
 pair_spec =

@@ -13,10 +13,10 @@ enum-told-2 : tie.Need-enum-told-2
 enum-told-2 c = search rules
 
 returns : tie.Need-returns
-returns c = rw (place-why _ _, ← c.before.before.slot-index.ensures, c.enum-told2.given.1)
+returns c = rw (place-why _, ← c.before.before.slot-index.ensures, c.enum-told2.given.1)
 
 returns-2 : tie.Need-returns-2
-returns-2 c = rw (place-why _ _, ← c.before.before.slot-index.ensures, c.enum_told.given.1)
+returns-2 c = rw (place-why _, ← c.before.before.slot-index.ensures, c.enum_told.given.1)
 
 pub place-spec : {M : Type 1} → statement M
 place-spec = tie.close (tie.spec slot-index-requires enum_told enum-told-2 returns returns-2)

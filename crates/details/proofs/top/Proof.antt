@@ -14,13 +14,13 @@ enum_told : tie.Need-enum-told
 enum_told c = search rules
 
 returns : tie.Need-returns
-returns c = rw (st0-why _ _, ← c.before.before.slot-index.ensures, c.enum_told.given.1)
+returns c = rw (st0-why _, ← c.before.before.slot-index.ensures, c.enum_told.given.1)
 
 returns-2 : tie.Need-returns-2
-returns-2 c = rw (st0-why _ _, ← c.before.before.before.before.slot-index.ensures, c.before.before.index.given.1, eq-eqb _ _ c.if1.true)
+returns-2 c = rw (st0-why _, ← c.before.before.before.before.slot-index.ensures, c.before.before.index.given.1, eq-eqb _ _ c.if1.true)
 
 returns-3 : tie.Need-returns-3
-returns-3 c = rw (st0-why _ _, ← c.before.before.before.before.slot-index.ensures, c.before.before.index.given.1, ne_eqb _ _ c.if1.false)
+returns-3 c = rw (st0-why _, ← c.before.before.before.before.slot-index.ensures, c.before.before.index.given.1, ne_eqb _ _ c.if1.false)
 
 pub top-spec : {M : Type 1} → statement M
 top-spec =

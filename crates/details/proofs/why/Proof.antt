@@ -21,7 +21,7 @@ among-requires : tie.Need-among-requires
 among-requires c κs = search rules
 
 returns : tie.Need-returns
-returns c = rw (by_shape _ _, ← (c.before.shape.ensures ∙ ap (λ (s : List ℕ). shape_of (family_of s)) c.before.before.first.ensures)) c.among.ensures
+returns c = rw (by_shape _, ← (c.before.shape.ensures ∙ ap (λ (s : List ℕ). shape_of (family_of s)) c.before.before.first.ensures)) c.among.ensures
 
 pub why-spec : {M : Type 1} → statement M
 why-spec =

@@ -5,9 +5,6 @@ use borrow.Author.Rules.{rules}
 use Rattle.export.proofs.classify_in.Statement.{statement}
 use Rattle.export.proofs.classify_in.Tie as tie
 
-settings-requires : tie.Need-settings-requires
-settings-requires c κs = search rules
-
 read-requires : tie.Need-read-requires
 read-requires c κs = search rules
 
@@ -34,9 +31,9 @@ unfolding classified
 returns c =
     let d = c.before.before.before in
     let e = d.before.before.before in
-    let b = e.before.before.before.before in
-    let q = rw (e.before.before.read.ensures, e.before.before.before.settings.ensures) at e.before.classify.ensures in
-    rw (le-leb _ _ b.before.before.before.requires.0, le-leb _ _ b.before.before.before.requires.1) (tells _ _ _ b.before.before.before.requires.2 (rw q at c.number.ensures) (rw (← q, ← e.fields.ensures) d.lay.ensures))
+    let b = e.before.before.before in
+    let q = rw e.before.before.read.ensures at e.before.classify.ensures in
+    rw (le-leb _ _ b.before.before.requires.0) (tells _ _ _ b.before.before.requires.1 (rw q at c.number.ensures) (rw (← q, ← e.fields.ensures) d.lay.ensures))
 
 pub classify-in-spec : {M : Type 1} → statement M
-classify-in-spec = tie.close (tie.spec settings-requires read-requires classify-requires fields-requires slice-aggregate-lay lay-requires number-requires same_length returns)
+classify-in-spec = tie.close (tie.spec read-requires classify-requires fields-requires slice-aggregate-lay lay-requires number-requires same_length returns)

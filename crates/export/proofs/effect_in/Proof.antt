@@ -5,9 +5,6 @@ use borrow.Author.Rules.{rules}
 use Rattle.export.proofs.effect_in.Statement.{statement}
 use Rattle.export.proofs.effect_in.Tie as tie
 
-settings-requires : tie.Need-settings-requires
-settings-requires c κs = search rules
-
 read-requires : tie.Need-read-requires
 read-requires c κs = search rules
 
@@ -34,9 +31,9 @@ unfolding affected
 returns c =
     let d = c.before.before.before in
     let e = d.before.before.before in
-    let b = e.before.before.before.before in
-    let q = rw (e.before.before.read.ensures, e.before.before.before.settings.ensures) at e.before.x87-effect.ensures in
-    rw (le-leb _ _ b.before.before.before.requires.0, le-leb _ _ b.before.before.before.requires.1) (tells _ _ _ b.before.before.before.requires.2 (rw q at c.effect-number.ensures) (rw (← q, ← e.effect-fields.ensures) d.lay.ensures))
+    let b = e.before.before.before in
+    let q = rw e.before.before.read.ensures at e.before.x87-effect.ensures in
+    rw (le-leb _ _ b.before.before.requires.0) (tells _ _ _ b.before.before.requires.1 (rw q at c.effect-number.ensures) (rw (← q, ← e.effect-fields.ensures) d.lay.ensures))
 
 pub effect-in-spec : {M : Type 1} → statement M
-effect-in-spec = tie.close (tie.spec settings-requires read-requires x87-effect-requires effect-fields-requires slice-aggregate-lay lay-requires effect-number-requires same_length returns)
+effect-in-spec = tie.close (tie.spec read-requires x87-effect-requires effect-fields-requires slice-aggregate-lay lay-requires effect-number-requires same_length returns)

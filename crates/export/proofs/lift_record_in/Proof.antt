@@ -13,9 +13,6 @@ place-requires c κs = search rules
 is-record-requires : tie.Need-is-record-requires
 is-record-requires c κs = search rules
 
-settings-requires : tie.Need-settings-requires
-settings-requires c κs = search rules
-
 classify-requires : tie.Need-classify-requires
 classify-requires c κs = search rules
 
@@ -32,7 +29,7 @@ beside-requires : tie.Need-beside-requires
 beside-requires c κs = search rules
 
 tell-requires : tie.Need-tell-requires
-tell-requires c κs = c.before.before.before.before.before.before.before.before.before.before.before.before.before.before.before.before.before.before.before.before.before.before.before.before.before.before.before.requires.2
+tell-requires c κs = search rules
 
 same_length : tie.Need-same-length
 same_length c = search rules
@@ -50,12 +47,12 @@ returns : tie.Need-returns
 returns c =
     let l = c.before.before.before.before.before.before.before.before.before.before.before in
     let e = l.before.before.before.before in
-    let b = e.before.before.before.before in
+    let b = e.before.before.before in
     let a = b.before.before.before.before in
-    let s = a.before.before.before.before.before.before.before in
-    let g = gives _ _ _ _ _ _ _ _ e.before.before.classify.ensures e.before.detail.ensures e.site-of.ensures _ _ _ _ _ l.lift-in.ensures c.before.before.before.beside.ensures in
+    let s = a.before.before.before.before.before.before in
+    let g = gives _ _ _ _ _ _ _ e.before.before.classify.ensures e.before.detail.ensures e.site-of.ensures _ _ _ _ _ l.lift-in.ensures c.before.before.before.beside.ensures in
     rw (← a.record-at.ensures)
-    (steps_on _ _ _ _ _ _ _ s.requires.2 s.requires.0 s.requires.1 _ e.before.before.before.settings.ensures _ _ _ _ _ _ (sym b.before.is-record.ensures ∙ b.if1.true) g
+    (steps_on _ _ _ _ _ _ s.requires.1 s.requires.0 _ _ _ _ _ _ (sym b.before.is-record.ensures ∙ b.if1.true) g
     (rw (← b.before.before.place.ensures) c.before.before.tell.ensures))
 
 slice-aggregate-lay : tie.Need-slice-aggregate-lay
@@ -74,9 +71,9 @@ returns-2 : tie.Need-returns-2
 returns-2 c =
     let b = c.before.before.before.before.before.before in
     let a = b.before.before.before.before in
-    let s = a.before.before.before.before.before.before.before in
+    let s = a.before.before.before.before.before.before in
     rw (← a.record-at.ensures)
-    (stops _ _ _ _ _ _ _ s.requires.2 s.requires.0 s.requires.1 _ _ (sym b.before.is-record.ensures ∙ b.if1.false) c.outcome-number.ensures
+    (stops _ _ _ _ _ _ s.requires.1 s.requires.0 _ _ (sym b.before.is-record.ensures ∙ b.if1.false) c.outcome-number.ensures
     (rw (← b.before.before.place.ensures) c.before.before.before.lay.ensures))
 
 pub lift-record-in-spec : {M : Type 1} → statement M
@@ -86,7 +83,6 @@ lift-record-in-spec =
     record-at-requires
     place-requires
     is-record-requires
-    settings-requires
     classify-requires
     detail-requires
     site-of-requires

@@ -1,15 +1,13 @@
 use mathlib.Core.Path.{refl}
 use borrow.Author.Tests.{lt-leb}
 use Rattle.export.specs.Answers.{classified}
-use Rattle.export.proofs.Calls.{tells, untold, both-there}
+use Rattle.export.proofs.Calls.{tells, untold}
 use borrow.Author.Rules.{rules}
 use Rattle.export.proofs.x87_classify.Statement.{statement}
 use Rattle.export.proofs.x87_classify.Tie as tie
 
 classify-in-requires : tie.Need-classify-in-requires
-classify-in-requires c κs =
-    let h = both-there 1 177 _ _ c.before.if2.true in
-    (h.0, h.1, c.before.before.if1.true)
+classify-in-requires c κs = search rules
 
 same_length : tie.Need-same-length
 same_length c = search rules
@@ -30,7 +28,7 @@ returns-2 : tie.Need-returns-2
 unfolding classified
 returns-2 c =
     let b = c.before.before.before.before.before in
-    rw b.if2.false (tells _ _ _ b.before.if1.true refl c.before.before.lay.ensures)
+    rw (lt-leb _ _ b.if2.false) (tells _ _ _ b.before.if1.true refl c.before.before.lay.ensures)
 
 returns-3 : tie.Need-returns-3
 returns-3 c = untold _ _ _ c.if1.false

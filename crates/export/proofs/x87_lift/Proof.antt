@@ -1,22 +1,13 @@
 use mathlib.Core.Logic.{⊎_elim}
 use mathlib.Core.Path.{refl}
 use Rattle.export.specs.Flat.{laid}
-use Rattle.export.proofs.Calls.{both-there}
-use Rattle.export.proofs.Lifting.{gives, from-flat, short-state, not-asked, few_words}
+use Rattle.export.proofs.Lifting.{gives, from-flat, short-state, short-flat, few_words}
 use borrow.Author.Rules.{rules}
-use lib.ListN.{length}
 use Rattle.export.proofs.x87_lift.Statement.{statement}
 use Rattle.export.proofs.x87_lift.Tie as tie
 
-settings-requires : tie.Need-settings-requires
-settings-requires c κs =
-    let a = c.before.before.before.before.before.before.before.before.before.args in
-    (both-there 1 177 (length a.set.now) (length a.flat.now) c.before.if2.true).0
-
 read-requires : tie.Need-read-requires
-read-requires c κs =
-    let a = c.before.before.before.before.before.before.before.before.before.before.args in
-    (both-there 1 177 (length a.set.now) (length a.flat.now) c.before.before.if2.true).1
+read-requires c κs = search rules
 
 classify-requires : tie.Need-classify-requires
 classify-requires c κs = search rules
@@ -57,8 +48,8 @@ returns c =
     let l = c.before.before.before.before.before.before.before in
     let e = l.before.before.before.before in
     let d = e.before.before.before in
-    let g = gives _ _ _ _ _ _ _ _ e.before.before.classify.ensures e.before.detail.ensures e.site-of.ensures _ _ _ _ _ l.lift-in.ensures c.beside.ensures in
-    from-flat _ _ _ _ _ _ d.before.before.before.before.if1.true d.before.before.before.if2.true d.before.before.if3.true _ _ _ _ _ _ _ _ d.before.settings.ensures d.read.ensures g refl
+    let g = gives _ _ _ _ _ _ _ e.before.before.classify.ensures e.before.detail.ensures e.site-of.ensures _ _ _ _ _ l.lift-in.ensures c.beside.ensures in
+    from-flat _ _ _ _ _ d.before.before.before.if1.true d.before.before.if2.true d.before.if3.true _ _ _ _ _ _ _ d.read.ensures g refl
 
 slice-write-out-2 : tie.Need-slice-write-out-2
 slice-write-out-2 c = search rules
@@ -70,16 +61,15 @@ returns-2 : tie.Need-returns-2
 unfolding laid
 returns-2 c =
     let k = c.before.if1.true in
-    ⊎_elim (λ w. short-state _ _ _ _ _ _ k w.0.taken w.1.left _ refl) (λ w. not-asked _ _ _ _ _ _ k w.left _ refl) c.if2.branch
+    ⊎_elim (λ w. short-state _ _ _ _ _ k w.0.taken w.1.left _ refl) (λ w. short-flat _ _ _ _ _ k w.left _ refl) c.if2.branch
 
 returns-3 : tie.Need-returns-3
-returns-3 c = few_words _ _ _ _ _ _ c.if1.false
+returns-3 c = few_words _ _ _ _ _ c.if1.false
 
 pub x87-lift-spec : {M : Type 1} → statement M
 x87-lift-spec =
     tie.close
     (tie.spec
-    settings-requires
     read-requires
     classify-requires
     detail-requires

@@ -1,13 +1,10 @@
-use Rattle.export.proofs.Calls.{both-there}
-use Rattle.export.proofs.Lifting.{too_few, few-told}
+use Rattle.export.proofs.Lifting.{few-state, few-told}
 use borrow.Author.Rules.{rules}
 use Rattle.export.proofs.x87_lift_record.Statement.{statement}
 use Rattle.export.proofs.x87_lift_record.Tie as tie
 
 lift-record-in-requires : tie.Need-lift-record-in-requires
-lift-record-in-requires c κs =
-    let h = both-there 1 13 _ _ c.before.before.before.before.if2.true in
-    (h.0, h.1, c.before.before.before.before.before.if1.true)
+lift-record-in-requires c κs = search rules
 
 same_length : tie.Need-same-length
 same_length c = search rules
@@ -34,10 +31,10 @@ same-length-5 : tie.Need-same-length-5
 same-length-5 c = search rules
 
 returns-2 : tie.Need-returns-2
-returns-2 c = too_few _ _ _ _ _ _ _ c.before.before.before.before.before.before.if1.true c.before.before.before.before.before.if2.false _ c.before.before.lay.ensures
+returns-2 c = few-state _ _ _ _ _ _ c.before.before.before.before.before.before.if1.true c.before.before.before.before.before.if2.false _ c.before.before.lay.ensures
 
 returns-3 : tie.Need-returns-3
-returns-3 c = few-told _ _ _ _ _ _ _ c.if1.false
+returns-3 c = few-told _ _ _ _ _ _ c.if1.false
 
 pub x87-lift-record-spec : {M : Type 1} → statement M
 x87-lift-record-spec =

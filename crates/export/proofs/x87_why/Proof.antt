@@ -3,21 +3,13 @@ use borrow.Author.Tests.{ne_eqb, le-leb, lt-leb}
 use Rattle.export.specs.Flat.{laid}
 use Rattle.details.specs.Why.{detail_of}
 use Rattle.export.specs.Answers.{reasoned}
-use Rattle.export.proofs.Calls.{tells, untold, both-there}
+use Rattle.export.proofs.Calls.{tells, untold}
 use borrow.Author.Rules.{rules}
-use lib.ListN.{length}
 use Rattle.export.proofs.x87_why.Statement.{statement}
 use Rattle.export.proofs.x87_why.Tie as tie
 
-settings-requires : tie.Need-settings-requires
-settings-requires c κs =
-    let a = c.before.before.before.before.before.args in
-    (both-there 1 177 (length a.set.now) (length a.flat.now) c.if2.true).0
-
 read-requires : tie.Need-read-requires
-read-requires c κs =
-    let a = c.before.before.before.before.before.before.args in
-    (both-there 1 177 (length a.set.now) (length a.flat.now) c.before.if2.true).1
+read-requires c κs = search rules
 
 classify-requires : tie.Need-classify-requires
 classify-requires c κs = search rules
@@ -41,9 +33,9 @@ returns : tie.Need-returns
 unfolding reasoned detail_of laid
 returns c =
     let k = c.before.before.before in
-    let n = rw (rw (k.before.read.ensures, k.before.before.settings.ensures) at k.classify.ensures) at c.before.before.number.ensures in
+    let n = rw (rw k.before.read.ensures at k.classify.ensures) at c.before.before.number.ensures in
     let one = sym c.before.if3.true ∙ n in
-    rw k.before.before.before.if2.true (tells _ _ _ k.before.before.before.before.if1.true one (rw (← one, ← k.before.read.ensures, ← k.before.before.settings.ensures, ← c.why.ensures)))
+    rw (le-leb _ _ k.before.before.if2.true) (tells _ _ _ k.before.before.before.if1.true one (rw (← one, ← k.before.read.ensures, ← c.why.ensures)))
 
 slice-write-out-2 : tie.Need-slice-write-out-2
 slice-write-out-2 c = search rules
@@ -55,8 +47,8 @@ returns-2 : tie.Need-returns-2
 unfolding reasoned detail_of laid
 returns-2 c =
     let k = c.before.before in
-    let n = rw (rw (k.before.read.ensures, k.before.before.settings.ensures) at k.classify.ensures) at c.before.number.ensures in
-    rw k.before.before.before.if2.true (tells _ _ _ k.before.before.before.before.if1.true n (rw (← n, ne_eqb _ _ c.if3.false)))
+    let n = rw (rw k.before.read.ensures at k.classify.ensures) at c.before.number.ensures in
+    rw (le-leb _ _ k.before.before.if2.true) (tells _ _ _ k.before.before.before.if1.true n (rw (← n, ne_eqb _ _ c.if3.false)))
 
 slice-write-out-3 : tie.Need-slice-write-out-3
 slice-write-out-3 c = search rules
@@ -66,7 +58,7 @@ same-length-3 c = search rules
 
 returns-3 : tie.Need-returns-3
 unfolding reasoned laid
-returns-3 c = rw c.if2.false (tells _ _ _ c.before.if1.true refl refl)
+returns-3 c = rw (lt-leb _ _ c.if2.false) (tells _ _ _ c.before.if1.true refl refl)
 
 returns-4 : tie.Need-returns-4
 returns-4 c = untold _ _ _ c.if1.false
@@ -75,7 +67,6 @@ pub x87-why-spec : {M : Type 1} → statement M
 x87-why-spec =
     tie.close
     (tie.spec
-    settings-requires
     read-requires
     classify-requires
     number-requires

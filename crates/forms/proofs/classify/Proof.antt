@@ -4,12 +4,9 @@ use Rattle.forms.proofs.classify.Tie as tie
 use Rattle.forms.specs.Classify.{classify_of}
 use borrow.Author.Tests.{le-leb, lt-leb}
 
-dialect-is-requires : tie.Need-dialect-is-requires
-dialect-is-requires c κs = search rules
-
 returns : tie.Need-returns
 unfolding classify_of
-returns c = simp (← c.before.before.dialect-is.ensures, c.before.if1.true, lt-leb _ _ c.if2.true)
+returns c = simp (lt-leb _ _ c.if1.true)
 
 operands-fit-requires : tie.Need-operands-fit-requires
 operands-fit-requires c κs = search rules
@@ -25,29 +22,24 @@ form-requires c κs = search rules
 
 returns-2 : tie.Need-returns-2
 unfolding classify_of
-returns-2 c = simp (← c.before.before.before.before.before.before.before.before.before.dialect-is.ensures, c.before.before.before.before.before.before.before.before.if1.true, le-leb _ _ c.before.before.before.before.before.before.before.if2.false, ← c.before.before.before.before.before.before.operands-fit.ensures.0, c.before.before.before.before.before.if3.true, ← c.before.before.before.before.valid.ensures, c.before.before.before.if4.true, ← c.before.before.before.before.before.before.operands-fit.ensures.1, c.before.before.if5.true, ← c.before.family-text.ensures, c.form.ensures)
+returns-2 c = simp (le-leb _ _ c.before.before.before.before.before.before.before.if1.false, ← c.before.before.before.before.before.before.operands-fit.ensures.0, c.before.before.before.before.before.if2.true, ← c.before.before.before.before.valid.ensures, c.before.before.before.if3.true, ← c.before.before.before.before.before.before.operands-fit.ensures.1, c.before.before.if4.true, ← c.before.family-text.ensures, c.form.ensures)
 
 returns-3 : tie.Need-returns-3
 unfolding classify_of
-returns-3 c = simp (← c.before.before.before.before.before.before.before.dialect-is.ensures, c.before.before.before.before.before.before.if1.true, le-leb _ _ c.before.before.before.before.before.if2.false, ← c.before.before.before.before.operands-fit.ensures.0, c.before.before.before.if3.true, ← c.before.before.valid.ensures, c.before.if4.true, ← c.before.before.before.before.operands-fit.ensures.1, c.if5.false)
+returns-3 c = simp (le-leb _ _ c.before.before.before.before.before.if1.false, ← c.before.before.before.before.operands-fit.ensures.0, c.before.before.before.if2.true, ← c.before.before.valid.ensures, c.before.if3.true, ← c.before.before.before.before.operands-fit.ensures.1, c.if4.false)
 
 returns-4 : tie.Need-returns-4
 unfolding classify_of
-returns-4 c = simp (← c.before.before.before.before.before.before.dialect-is.ensures, c.before.before.before.before.before.if1.true, le-leb _ _ c.before.before.before.before.if2.false, ← c.before.before.before.operands-fit.ensures.0, c.before.before.if3.true, ← c.before.valid.ensures, c.if4.false)
+returns-4 c = simp (le-leb _ _ c.before.before.before.before.if1.false, ← c.before.before.before.operands-fit.ensures.0, c.before.before.if2.true, ← c.before.valid.ensures, c.if3.false)
 
 returns-5 : tie.Need-returns-5
 unfolding classify_of
-returns-5 c = simp (← c.before.before.before.before.dialect-is.ensures, c.before.before.before.if1.true, le-leb _ _ c.before.before.if2.false, ← c.before.operands-fit.ensures.0, c.if3.false)
-
-returns-6 : tie.Need-returns-6
-unfolding classify_of
-returns-6 c = simp (← c.before.dialect-is.ensures, c.if1.false)
+returns-5 c = simp (le-leb _ _ c.before.before.if1.false, ← c.before.operands-fit.ensures.0, c.if2.false)
 
 pub classify-spec : {M : Type 1} → statement M
 classify-spec =
     tie.close
     (tie.spec
-    dialect-is-requires
     returns
     operands-fit-requires
     valid-requires
@@ -56,5 +48,4 @@ classify-spec =
     returns-2
     returns-3
     returns-4
-    returns-5
-    returns-6)
+    returns-5)

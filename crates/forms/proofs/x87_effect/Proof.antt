@@ -18,8 +18,11 @@ touched-requires c κs = search rules
 enum_told : tie.Need-enum-told
 enum_told c = search rules
 
-enum-known-r : tie.Need-enum-known-r
-enum-known-r c = search rules
+enum-told-2 : tie.Need-enum-told-2
+enum-told-2 c = search rules
+
+enum-told-3 : tie.Need-enum-told-3
+enum-told-3 c = search rules
 
 returns : tie.Need-returns
 unfolding effect_of
@@ -31,7 +34,11 @@ returns-2 c = simp (← c.before.before.classify.ensures, c.enum_told.given.1)
 
 returns-3 : tie.Need-returns-3
 unfolding effect_of
-returns-3 c = simp (← c.before.before.before.classify.ensures, c.before.r.given.1)
+returns-3 c = simp (← c.before.before.classify.ensures, c.enum-told2.given.1)
+
+returns-4 : tie.Need-returns-4
+unfolding effect_of
+returns-4 c = simp (← c.before.before.classify.ensures, c.enum-told3.given.1)
 
 pub x87-effect-spec : {M : Type 1} → statement M
 x87-effect-spec =
@@ -42,7 +49,9 @@ x87-effect-spec =
     enum-known-form
     touched-requires
     enum_told
-    enum-known-r
+    enum-told-2
+    enum-told-3
     returns
     returns-2
-    returns-3)
+    returns-3
+    returns-4)

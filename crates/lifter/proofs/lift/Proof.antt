@@ -28,7 +28,7 @@ returns : tie.Need-returns
 returns c =
     let l = c.before.before.before.before.before.before in
     let k = l.before.before.before in
-    lifted _ _ _ _ _ _ _ _ k.before.before.classify.ensures k.before.detail.ensures k.site-of.ensures l.lift-classified.ensures c.beside.ensures
+    lifted _ _ _ _ _ _ _ k.before.before.classify.ensures k.before.detail.ensures k.site-of.ensures l.lift-classified.ensures c.beside.ensures
 
 pub lift-spec : {M : Type 1} → statement M
 lift-spec =

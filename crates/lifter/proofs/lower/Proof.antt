@@ -17,11 +17,11 @@ enum_told c = search rules
 decline-x87-requires : tie.Need-decline-x87-requires
 decline-x87-requires c κs = search rules
 
-enum-known-classified-2 : tie.Need-enum-known-classified-2
-enum-known-classified-2 c = search rules
+enum-told-2 : tie.Need-enum-told-2
+enum-told-2 c = search rules
 
-refusal-number-requires : tie.Need-refusal-number-requires
-refusal-number-requires c κs = search rules
+enum-told-3 : tie.Need-enum-told-3
+enum-told-3 c = search rules
 
 same_length : tie.Need-same-length
 same_length c = search rules
@@ -42,7 +42,11 @@ returns-2 c = rw c.before.before.before.before.enum_told.given.1 (statements c.b
 
 returns-3 : tie.Need-returns-3
 unfolding lowered_of
-returns-3 c = rw c.before.before.classified2.given.1 (still refl c.refusal-number.ensures)
+returns-3 c = rw c.enum-told2.given.1 (still refl refl)
+
+returns-4 : tie.Need-returns-4
+unfolding lowered_of
+returns-4 c = rw c.enum-told3.given.1 (still refl refl)
 
 pub lower_spec : {M : Type 1} → statement M
 lower_spec =
@@ -52,11 +56,12 @@ lower_spec =
     apply-x87-requires
     enum_told
     decline-x87-requires
-    enum-known-classified-2
-    refusal-number-requires
+    enum-told-2
+    enum-told-3
     same_length
     same-length-2
     returns
     same-length-3
     returns-2
-    returns-3)
+    returns-3
+    returns-4)

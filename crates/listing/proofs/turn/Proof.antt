@@ -34,16 +34,16 @@ same-length-2 : tie.Need-same-length-2
 same-length-2 c = search rules
 
 returns : tie.Need-returns
-returns c = rw c.halted3.ensures (lift-refused _ _ _ _ _ _ _ c.before.before.before.before.before.before.before.before.before.before.before.enum-told2.given.1 _ _ _ _ c.before.before.before.before.before.before.before.before.lift.ensures.does c.before.if1.true)
+returns c = rw c.halted3.ensures (lift-refused _ _ _ _ _ _ c.before.before.before.before.before.before.before.before.before.before.before.enum-told2.given.1 _ _ _ _ c.before.before.before.before.before.before.before.before.lift.ensures.does c.before.if1.true)
 
 going-requires : tie.Need-going-requires
 going-requires c κs = search rules
 
 returns-2 : tie.Need-returns-2
-returns-2 c = rw c.halted.ensures (at-end _ _ _ _ _ _ _ c.before.enum_told.given.1)
+returns-2 c = rw c.halted.ensures (at-end _ _ _ _ _ _ c.before.enum_told.given.1)
 
 returns-3 : tie.Need-returns-3
-returns-3 c = rw (c.halted2.ensures, c.before.refusal-number.ensures) (refused _ _ _ _ _ _ _ _ c.before.before.before.o.given.1)
+returns-3 c = rw (c.halted2.ensures, c.before.refusal-number.ensures) (refused _ _ _ _ _ _ _ c.before.before.before.o.given.1)
 
 same-length-3 : tie.Need-same-length-3
 same-length-3 c = search rules
@@ -52,7 +52,7 @@ same-length-4 : tie.Need-same-length-4
 same-length-4 c = search rules
 
 returns-4 : tie.Need-returns-4
-returns-4 c = rw c.going.ensures (lifts-on _ _ _ _ _ _ _ c.before.before.before.before.before.before.before.before.before.before.before.enum-told2.given.1 _ _ _ _ c.before.before.before.before.before.before.before.before.lift.ensures.does c.before.if1.false)
+returns-4 c = rw c.going.ensures (lifts-on _ _ _ _ _ _ c.before.before.before.before.before.before.before.before.before.before.before.enum-told2.given.1 _ _ _ _ c.before.before.before.before.before.before.before.before.lift.ensures.does c.before.if1.false)
 
 pub turn_spec : {M : Type 1} → statement M
 turn_spec =

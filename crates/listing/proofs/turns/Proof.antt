@@ -331,7 +331,7 @@ module _ {M : Type 1} {𝓤 : Ura M} (𝓛 : Logic 𝓤) (at_mem : Memory → SP
 
       -- a turn that takes what stands at the reader's place, and lifts it
       more : (h : Here) (X : SProp 𝓤) → h.g.on ≡ true → Known h.g → length h.nodes ≡ length n₀ → length h.statements ≡ length m₀
-          → ((t : Taken) (k : Here) → t ≡ taken_at s.now h.at → k.at ≡ place_of t.outcome → Turned h.g.settings t h.at h.g.stop.state h.nodes h.statements k.g k.nodes k.statements
+          → ((t : Taken) (k : Here) → t ≡ taken_at s.now h.at → k.at ≡ place_of t.outcome → Turned t h.at h.g.stop.state h.nodes h.statements k.g k.nodes k.statements
           → length k.nodes ≡ length h.nodes → length k.statements ≡ length h.statements → Known k.g → ent 𝓤 (⋆ 𝓛 (At k)) X)
           → ent 𝓤 (⋆ 𝓛 (At h)) (Wp 𝓤 H 𝓣.C 𝓣.Λ En code-mir.turn-1 (after_turn 𝓤 H X Left))
       unfolding after_turn
@@ -376,8 +376,8 @@ module _ {M : Type 1} {𝓤 : Ura M} (𝓛 : Logic 𝓤) (at_mem : Memory → SP
           calls_at_last ! fm (Turn 𝓛 at_mem run) known-turn (to-turn μ (passing δ₁ δ₂ h t) u)
           (and_then ! (load ! (from ! (stop !)) (look ! 11 refl)) (and_then ! (load ! (from ! (stop !)) (look ! 7 refl)) (and_then ! (load ! (from ! (stop !)) (look ! 25 refl)) (and_then ! (load ! (from ! (stop !)) (look ! 21 refl)) (and_then ! (load ! (from ! (stop !)) (look ! 23 refl)) (no_more !)))))) (λ w.
           use1 𝓛 (later (some (λ (g : Progress). ((‵ (flft (μ ∷ []) full_share) ⊛ ‵ ftrue) ⊛ ‵ ((P.the_row).own_val g (w ∷ []))) ⊛ raw (ensured 𝓛 turn.ended (turn.clauses 𝓛 at_mem run) (μ ∷ [], tt) (passing δ₁ δ₂ h t) tt g)))) (id⊢ 𝓤 _) $ await ! tt $ pick ! (λ g.
-          split ! $ move ! (1 ∷ []) $ use1 𝓛 (some (λ (zs : List ℕ × (List ℕ × (Unit {0} × (Unit {0} × (Unit {0} × Unit {0}))))). ‵ (lasts turn.ended (μ ∷ [], tt) (passing δ₁ δ₂ h t) zs) ⊛ raw (fact 𝓤 (Turned h.g.settings t h.at h.g.stop.state h.nodes h.statements g zs.0 zs.1.0)))) (id⊢ 𝓤 _) $ pick ! (λ zs.
-          split ! $ move ! (1 ∷ []) $ heard ! (Turned h.g.settings t h.at h.g.stop.state h.nodes h.statements g zs.0 zs.1.0) (λ d.
+          split ! $ move ! (1 ∷ []) $ use1 𝓛 (some (λ (zs : List ℕ × (List ℕ × (Unit {0} × (Unit {0} × (Unit {0} × Unit {0}))))). ‵ (lasts turn.ended (μ ∷ [], tt) (passing δ₁ δ₂ h t) zs) ⊛ raw (fact 𝓤 (Turned t h.at h.g.stop.state h.nodes h.statements g zs.0 zs.1.0)))) (id⊢ 𝓤 _) $ pick ! (λ zs.
+          split ! $ move ! (1 ∷ []) $ heard ! (Turned t h.at h.g.stop.state h.nodes h.statements g zs.0 zs.1.0) (λ d.
           fsplit ! $ fsplit ! $ move ! (1 ∷ []) $ feq_l ! (λ same₁. move ! (1 ∷ []) $ fsplit ! $ fsplit ! $ move ! (1 ∷ []) $ feq_l ! (λ same₂. move ! (1 ∷ []) $ drop ! $
           -- [the last statements; the last nodes; the token and the result; what is kept of statements; of nodes; what the reader owns; _5; its token; what s owns; _15; …]
           move ! (2 ∷ []) $ split ! $ move ! (1 ∷ []) $ peeks ! P.the_row (Is P.the_row) (shows 𝓛 P.the_row) g (w ∷ []) (λ is-k. drop ! $ split ! $

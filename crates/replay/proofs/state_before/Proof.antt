@@ -6,7 +6,7 @@ use Rattle.replay.proofs.state_before.Statement.{statement}
 use Rattle.replay.proofs.state_before.Tie as tie
 
 abbrev invariant-loop : tie.invariant-loop
-invariant-loop head w₀ i₀ w i = (i ≤ 13) × (length head ≡ 290)
+invariant-loop head w₀ i₀ w i = (i ≤ 13) × (length head ≡ 289)
 
 abbrev decreases-loop : tie.decreases-loop
 decreases-loop head w₀ i₀ w i = 13 - i

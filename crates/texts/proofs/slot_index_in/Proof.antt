@@ -25,7 +25,7 @@ slot-index-requires-2 : tie.Need-slot-index-requires-2
 slot-index-requires-2 c κs = search rules
 
 returns-2 : tie.Need-returns-2
-returns-2 c = c.slot-index2.ensures ∙ ap (place_of c.before.before.before.args.dialect) (sym (take_all c.before.before.before.args.n c.before.before.before.args.t1 (omega arith)))
+returns-2 c = c.slot-index2.ensures ∙ ap place_of (sym (take_all c.before.before.before.args.n c.before.before.before.args.t1 (omega arith)))
 
 pub slot-index-in-spec : {M : Type 1} → statement M
 slot-index-in-spec =

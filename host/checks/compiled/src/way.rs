@@ -3,7 +3,6 @@
 use std::collections::BTreeMap;
 
 use program::Program;
-use sleetgate::Settings;
 use x87rec::{Options, Take, translate};
 
 use crate::belief::PROBES;
@@ -84,10 +83,10 @@ pub fn shown(program: &Program, asked: Asked, decisions: &Decisions) -> Result<S
         ..Options::default()
     };
     let records = translate(asked.objdump, &options).map_err(|wrong| wrong.to_string())?;
-    let listing = program.listing(&[], &records.bytes());
+    let listing = program.listing(&records.bytes());
     let listing = listing.map_err(|wrong| wrong.to_string())?;
     let listing = String::from_utf8(listing).map_err(|wrong| wrong.to_string())?;
-    let shown = x87show::show(Settings::default(), &listing, Some(&records.notes));
+    let shown = x87show::show(&listing, Some(&records.notes));
     let shown = shown.map_err(|wrong| wrong.to_string())?;
     if shown.refused {
         return Err(format!("refused: {}", shown.text));

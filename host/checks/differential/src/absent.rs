@@ -1,7 +1,7 @@
 //! Stands in the place of the oracle where the r2SMT sources are not at
 //! hand: the comparisons ask `at_hand` first.
 
-use plain::{Instruction, Settings};
+use plain::Instruction;
 
 /// Whether the r2SMT sources were at hand when this was built.
 #[must_use]
@@ -12,13 +12,13 @@ pub fn at_hand() -> bool {
 /// # Panics
 /// Always: there is no oracle.
 #[must_use]
-pub fn classify(_: Settings, _: &Instruction) -> Option<[u64; 8]> {
+pub fn classify(_: &Instruction) -> Option<[u64; 8]> {
     panic!("{}", crate::NO_ORACLE)
 }
 
 /// # Panics
 /// Always: there is no oracle.
 #[must_use]
-pub fn effect(_: Settings, _: &Instruction) -> Option<[bool; 7]> {
+pub fn effect(_: &Instruction) -> Option<[bool; 7]> {
     panic!("{}", crate::NO_ORACLE)
 }

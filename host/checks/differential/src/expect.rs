@@ -2,7 +2,7 @@
 //! the manual, section 7, the detail of a decline as it is said plainly,
 //! all else as the Rust says it.
 
-use plain::{DECLINED, Instruction, MODELLED, REGISTER, Settings, TOO_SHORT, refusal};
+use plain::{DECLINED, Instruction, MODELLED, REGISTER, TOO_SHORT, refusal};
 
 use crate::oracle;
 
@@ -36,34 +36,27 @@ impl Answer {
     }
 }
 
-/// What `classify` gives for `settings` and `flat` with `room` words lent.
+/// What `classify` gives for `flat` with `room` words lent.
 #[must_use]
-pub fn classify(settings: &[u8], flat: &[u8], room: usize) -> Answer {
-    answer(settings, flat, room, |settings, insn| {
-        answered(oracle::classify(settings, insn))
+pub fn classify(flat: &[u8], room: usize) -> Answer {
+    answer(flat, room, |insn| answered(oracle::classify(insn)))
+}
+
+/// What `why` gives for `flat` with `room` words lent: the answer of
+/// `classify`, and the detail of a decline.
+#[must_use]
+pub fn why(flat: &[u8], room: usize) -> Answer {
+    answer(flat, room, |insn| match oracle::classify(insn) {
+        Some(_) => (MODELLED, [0]),
+        None => (DECLINED, [plain::why(insn).into()]),
     })
 }
 
-/// What `why` gives likewise: the answer of `classify`, and the detail of a
-/// decline.
+/// What `effect` gives for `flat` with `room` words lent.
 #[must_use]
-pub fn why(settings: &[u8], flat: &[u8], room: usize) -> Answer {
-    answer(
-        settings,
-        flat,
-        room,
-        |settings, insn| match oracle::classify(settings, insn) {
-            Some(_) => (MODELLED, [0]),
-            None => (DECLINED, [plain::why(settings, insn).into()]),
-        },
-    )
-}
-
-/// What `effect` gives likewise.
-#[must_use]
-pub fn effect(settings: &[u8], flat: &[u8], room: usize) -> Answer {
-    answer(settings, flat, room, |settings, insn| {
-        answered(oracle::effect(settings, insn).map(|flags| flags.map(u64::from)))
+pub fn effect(flat: &[u8], room: usize) -> Answer {
+    answer(flat, room, |insn| {
+        answered(oracle::effect(insn).map(|flags| flags.map(u64::from)))
     })
 }
 
@@ -76,22 +69,21 @@ fn answered<const N: usize>(said: Option<[u64; N]>) -> (u32, [u64; N]) {
 /// Too short, then refused, then what is said in `N` words, which are 0
 /// beside all else that can be told.
 fn answer<const N: usize>(
-    settings: &[u8],
     flat: &[u8],
     room: usize,
-    said: impl Fn(Settings, &Instruction) -> (u32, [u64; N]),
+    said: impl Fn(&Instruction) -> (u32, [u64; N]),
 ) -> Answer {
     if room < N {
         return Answer::new(TOO_SHORT, &[]);
     }
-    let (Some(settings), Some(flat)) = (Settings::from_bytes(settings), flat.first_chunk()) else {
+    let Some(flat) = flat.first_chunk() else {
         return Answer::new(TOO_SHORT, &[0; N]);
     };
     let insn = Instruction::from_flat(flat);
-    if let Some(number) = refusal(settings, &insn) {
+    if let Some(number) = refusal(&insn) {
         return Answer::new(number, &[0; N]);
     }
-    let (number, words) = said(settings, &insn);
+    let (number, words) = said(&insn);
     Answer::new(number, &words)
 }
 

@@ -1,7 +1,6 @@
 //! Random lists of nodes that have sorts: any kind, with operands chosen
 //! by their sort, and lists that the lifter makes.
 
-use plain::Settings;
 use plain::sorts::{Format, Sort, WIDEST};
 use plain::state::{DEPTH, NODES, ROW, STATE};
 use plain::values::{VALUE, takes_given, words};
@@ -90,14 +89,12 @@ pub fn lifted(grid: &Grid, rng: &mut Rng) -> List {
     let mut nodes = vec![0; LONGEST * ROWS * ROW];
     let mut statements = vec![0; LONGEST * ROWS * ROW];
     let profile = Profile::plain(rng.between(1, LONGEST));
-    let settings = Settings::default().to_bytes();
     while state[NODES] == 0 {
         for _ in 0..profile.length {
             let depth = usize::try_from(state[DEPTH]).expect("at most 8");
             let flat = profile.next(grid, rng, depth).to_flat();
             let detail = &mut [0; DETAIL];
-            let lists = (&mut nodes, &mut statements);
-            untested::lift(&settings, &flat, &mut state, lists.0, lists.1, detail);
+            untested::lift(&flat, &mut state, &mut nodes, &mut statements, detail);
         }
     }
     let count = usize::try_from(state[NODES]).expect("at most the room");

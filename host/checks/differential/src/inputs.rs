@@ -1,9 +1,9 @@
 //! Inputs for the reader of records: good ones, each damaged at every
 //! byte and cut at every length, and random ones.
 
-use plain::{Instruction, record};
+use plain::record;
 
-use crate::instructions::fill_unused;
+use crate::instructions::{Grid, fill_unused};
 use crate::rng::Rng;
 
 /// An input, and where reading starts.
@@ -31,13 +31,13 @@ struct Good {
 }
 
 impl Good {
-    fn random(rng: &mut Rng, mut next: impl FnMut(&mut Rng) -> Instruction) -> Self {
+    fn random(grid: &Grid, rng: &mut Rng) -> Self {
         let mut good = Self {
             bytes: Vec::new(),
             starts: Vec::new(),
         };
         for _ in 0..rng.between(1, 3) {
-            let mut insn = next(rng);
+            let mut insn = grid.random(rng);
             fill_unused(&mut insn, rng);
             good.starts.push(good.bytes.len());
             good.bytes.extend(record(&insn));
@@ -134,10 +134,9 @@ fn random(rng: &mut Rng) -> Input {
     Input { bytes, at }
 }
 
-/// All inputs that are made from the next good one, which has these
-/// instructions.
-pub fn batch(rng: &mut Rng, next: impl FnMut(&mut Rng) -> Instruction) -> Vec<Input> {
-    let good = Good::random(rng, next);
+/// All inputs that are made from the next good one.
+pub fn batch(grid: &Grid, rng: &mut Rng) -> Vec<Input> {
+    let good = Good::random(grid, rng);
     let mut all: Vec<Input> = good.whole().chain(good.cut()).collect();
     all.extend(good.damaged(rng));
     for _ in 0..RANDOM {

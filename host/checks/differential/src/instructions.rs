@@ -11,9 +11,7 @@ use crate::rng::Rng;
 /// every list of three from a shorter choice.
 pub struct Grid {
     names: Vec<Vec<u8>>,
-    /// The operands of random instructions; all of the grid.
     all: Vec<Operand>,
-    listed: Vec<Operand>,
     few: Vec<Operand>,
 }
 
@@ -22,7 +20,6 @@ impl Default for Grid {
         Self {
             names: names::all(),
             all: operands::all(),
-            listed: [operands::all(), operands::bare()].concat(),
             few: operands::few(),
         }
     }
@@ -40,7 +37,7 @@ impl Grid {
     }
 
     fn per_name(&self) -> usize {
-        let (all, few) = (self.listed.len(), self.few.len());
+        let (all, few) = (self.all.len(), self.few.len());
         1 + all + all * all + few * few * few
     }
 
@@ -53,17 +50,17 @@ impl Grid {
     }
 
     fn operands(&self, number: usize) -> Vec<Operand> {
-        let (all, few) = (self.listed.len(), self.few.len());
+        let (all, few) = (self.all.len(), self.few.len());
         if number == 0 {
             return Vec::new();
         }
         let number = number - 1;
         if number < all {
-            return vec![self.listed[number]];
+            return vec![self.all[number]];
         }
         let number = number - all;
         if number < all * all {
-            return vec![self.listed[number / all], self.listed[number % all]];
+            return vec![self.all[number / all], self.all[number % all]];
         }
         let number = number - all * all;
         [number / few / few, number / few % few, number % few]

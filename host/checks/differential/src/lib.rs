@@ -6,8 +6,6 @@ use std::io::Write as _;
 pub mod checks;
 pub mod classify;
 pub mod damage;
-pub mod decided;
-pub mod dialects;
 pub mod every_text;
 pub mod expect;
 pub mod formulas;

@@ -3,12 +3,9 @@
 //! and as it stands in the list, compared with what is said plainly.
 
 use plain::state::{DEPTH, INPUTS, NODES, ROW, STATE, STATEMENTS, room, valid};
-use plain::{
-    BAD_STATE, FLAT, Instruction, NO_NODES, NO_STATEMENTS, SETTINGS, Settings, TOO_SHORT, refusal,
-};
+use plain::{BAD_STATE, FLAT, Instruction, NO_NODES, NO_STATEMENTS, TOO_SHORT, refusal};
 use sleetgate_sys::DETAIL;
 
-use crate::dialects::{Manner, lent, unknown};
 use crate::instructions::{Grid, put_out_of_range};
 use crate::report::{Report, hex};
 use crate::rng::Rng;
@@ -62,7 +59,6 @@ const BEYOND: u8 = 0xa5;
 
 /// What one call is lent.
 struct Call {
-    settings: Vec<u8>,
     flat: Vec<u8>,
     /// The state's words, of which more or fewer than 13 may be lent.
     state: Vec<u64>,
@@ -75,15 +71,8 @@ struct Call {
 
 impl Call {
     fn expected(&self) -> Expected {
-        let (nodes, statements, told) = (self.nodes, self.statements, self.told.len());
-        expect(
-            &self.settings,
-            &self.flat,
-            &self.state,
-            nodes,
-            statements,
-            told,
-        )
+        let told = self.told.len();
+        expect(&self.flat, &self.state, self.nodes, self.statements, told)
     }
 }
 
@@ -127,11 +116,10 @@ impl Expected {
 }
 
 /// The order of answers (the manual, section 7) over the oracle's step:
-/// 10, 5, 33, 4, 3, 6, 7, then what the Rust says. The lists, and what is to
+/// 10, 5, 4, 3, 6, 7, then what the Rust says. The lists, and what is to
 /// be told, are lent with so many words.
 #[must_use]
 pub fn expect(
-    settings: &[u8],
     flat: &[u8],
     state: &[u64],
     nodes: usize,
@@ -142,9 +130,6 @@ pub fn expect(
     else {
         return Expected::refused(TOO_SHORT);
     };
-    let Some(settings) = Settings::from_bytes(settings) else {
-        return Expected::refused(TOO_SHORT);
-    };
     if told < DETAIL {
         return Expected::refused(TOO_SHORT);
     }
@@ -153,10 +138,10 @@ pub fn expect(
         return Expected::refused(BAD_STATE);
     }
     let insn = Instruction::from_flat(flat);
-    if let Some(number) = refusal(settings, &insn) {
+    if let Some(number) = refusal(&insn) {
         return Expected::refused(number);
     }
-    let step = step(settings, state, &insn);
+    let step = step(state, &insn);
     if step.state[NODES] > nodes {
         return Expected::refused(NO_NODES);
     }
@@ -190,14 +175,13 @@ struct Sequence<'a, S> {
     got: Lists,
     expected: Lists,
     state: [u64; STATE],
-    /// Instructions so far, and the settings of each.
-    lifted: Vec<(Settings, Instruction)>,
+    /// Instructions so far.
+    lifted: Vec<Instruction>,
     follower: Option<Follower>,
 }
 
 fn sequence(subject: &impl Subject, grid: &Grid, rng: &mut Rng, number: u64, report: &mut Report) {
     let profile = Profile::random(rng);
-    let manner = Manner::random(rng);
     let fresh = !rng.one_in(8);
     let state = if fresh { [0; STATE] } else { random_state(rng) };
     let lists = random_lists(rng, &state, profile.length);
@@ -211,13 +195,11 @@ fn sequence(subject: &impl Subject, grid: &Grid, rng: &mut Rng, number: u64, rep
         follower: fresh.then(Follower::default),
     };
     for _ in 0..profile.length {
-        let mut insn = profile.next(grid, rng, index(sequence.state[DEPTH]));
-        manner.spell(&mut insn, rng);
-        let settings = manner.settings(rng);
+        let insn = profile.next(grid, rng, index(sequence.state[DEPTH]));
         if rng.one_in(4) {
-            sequence.refuse(settings, &insn, rng, report);
+            sequence.refuse(&insn, rng, report);
         }
-        sequence.advance(settings, &insn, rng, report);
+        sequence.advance(&insn, rng, report);
     }
     sequence.finish(report);
 }
@@ -263,15 +245,9 @@ fn random_lists(rng: &mut Rng, state: &[u64; STATE], length: usize) -> Lists {
 impl<S: Subject> Sequence<'_, S> {
     /// Lift one instruction with all of the lists lent, or with just as
     /// many rows as it needs.
-    fn advance(
-        &mut self,
-        settings: Settings,
-        insn: &Instruction,
-        rng: &mut Rng,
-        report: &mut Report,
-    ) {
-        self.lifted.push((settings, *insn));
-        let mut call = self.call(settings, insn, rng);
+    fn advance(&mut self, insn: &Instruction, rng: &mut Rng, report: &mut Report) {
+        self.lifted.push(*insn);
+        let mut call = self.call(insn, rng);
         if rng.one_in(4)
             && let Some(step) = call.expected().step
         {
@@ -287,47 +263,17 @@ impl<S: Subject> Sequence<'_, S> {
             }
             report.note("nodes", step.nodes.len() as u64);
             report.note("inputs", step.state[INPUTS] - before[INPUTS]);
-            report.count_dialect(settings, insn);
-            self.follow(settings, insn, &before, report);
+            self.follow(insn, &before, report);
         }
     }
 
     /// A call that must be refused, or change nothing else than it
     /// should: too little room, a state that is not valid, an
-    /// instruction out of range, a dialect that is none, slices too short.
-    fn refuse(
-        &mut self,
-        settings: Settings,
-        insn: &Instruction,
-        rng: &mut Rng,
-        report: &mut Report,
-    ) {
-        let mut call = self.call(settings, insn, rng);
-        self.shorten(&mut call, rng);
-        if rng.one_in(3) {
-            damage_state(&mut call.state, rng);
-        }
-        if rng.one_in(4) && call.flat.len() >= FLAT {
-            let mut insn = *insn;
-            put_out_of_range(&mut insn, rng);
-            call.flat = insn.to_flat().to_vec();
-        }
-        if rng.one_in(4) && call.settings.len() >= SETTINGS {
-            let none = unknown(rng);
-            call.settings = lent(none, rng);
-        }
-        // Only refusals: what changes nothing can be tried beside the sequence.
-        if call.expected().step.is_none() {
-            report.note("tried beside the sequence", 1);
-            self.compare(call, report);
-        }
-    }
-
-    /// Lend a call less of one thing: of a list often just one row or word
-    /// less than it needs.
-    fn shorten(&self, call: &mut Call, rng: &mut Rng) {
+    /// instruction out of range, slices too short.
+    fn refuse(&mut self, insn: &Instruction, rng: &mut Rng, report: &mut Report) {
+        let mut call = self.call(insn, rng);
         let needed = call.expected().step.map_or(self.state, |step| step.state);
-        match rng.below(10) {
+        match rng.below(9) {
             0 => call.nodes = (index(needed[NODES]) * ROW).saturating_sub(1),
             1 => call.statements = (index(needed[STATEMENTS]) * ROW).saturating_sub(1),
             2 => {
@@ -339,22 +285,33 @@ impl<S: Subject> Sequence<'_, S> {
             5 => call.flat.resize(rng.below(2 * FLAT), 0),
             6 => call.state.truncate(rng.below(STATE)),
             7 => call.told.truncate(rng.below(DETAIL)),
-            8 => call.settings.truncate(rng.below(SETTINGS)),
             _ => {}
         }
         call.nodes = call.nodes.min(self.got.nodes.len());
         call.statements = call.statements.min(self.got.statements.len());
+        if rng.one_in(3) {
+            damage_state(&mut call.state, rng);
+        }
+        if rng.one_in(4) && call.flat.len() >= FLAT {
+            let mut insn = *insn;
+            put_out_of_range(&mut insn, rng);
+            call.flat = insn.to_flat().to_vec();
+        }
+        // Only refusals: what changes nothing can be tried beside the sequence.
+        if call.expected().step.is_none() {
+            report.note("tried beside the sequence", 1);
+            self.compare(call, report);
+        }
     }
 
     /// The call with all of the lists, and a few bytes and words beyond
-    /// the settings, the instruction, the state and what is told.
-    fn call(&self, settings: Settings, insn: &Instruction, rng: &mut Rng) -> Call {
+    /// the instruction, the state and what is told.
+    fn call(&self, insn: &Instruction, rng: &mut Rng) -> Call {
         let mut state = self.state.to_vec();
         state.resize(STATE + rng.below(3), UNWRITTEN);
         let mut flat = insn.to_flat().to_vec();
         flat.resize(FLAT + rng.below(3), BEYOND);
         Call {
-            settings: lent(settings, rng),
             flat,
             state,
             nodes: self.got.nodes.len(),
@@ -388,7 +345,6 @@ impl<S: Subject> Sequence<'_, S> {
     fn asked(&mut self, call: &Call) -> Answer {
         let mut answer = Answer::before(0, call);
         answer.number = self.subject.lift(
-            &call.settings,
             &call.flat,
             &mut answer.state,
             &mut self.got.nodes[..call.nodes],
@@ -415,18 +371,12 @@ impl<S: Subject> Sequence<'_, S> {
     }
 
     /// Follow with the real trees.
-    fn follow(
-        &mut self,
-        settings: Settings,
-        insn: &Instruction,
-        before: &[u64; STATE],
-        report: &mut Report,
-    ) {
+    fn follow(&mut self, insn: &Instruction, before: &[u64; STATE], report: &mut Report) {
         let Some(follower) = &mut self.follower else {
             return;
         };
         let lists = (self.got.nodes.as_slice(), self.got.statements.as_slice());
-        if let Err(tree) = follower.follow(settings, insn, before, &self.state, lists) {
+        if let Err(tree) = follower.follow(insn, before, &self.state, lists) {
             report.differs(|| format!("{tree}\n{}", self.history()));
             self.follower = None;
         }
@@ -450,10 +400,9 @@ impl<S: Subject> Sequence<'_, S> {
     fn say(&self, call: &Call, wanted: &Answer, got: &Answer) -> String {
         let (nodes, statements) = (self.changed(NODES), self.changed(STATEMENTS));
         format!(
-            "lift of {}\nin settings {:?} with {} words of nodes and {} of statements\n\
+            "lift of {}\nwith {} words of nodes and {} of statements\n\
              before   {:?}\nexpected {wanted:?}\ngot      {got:?}\n{nodes}{statements}{}",
             hex(&call.flat),
-            call.settings,
             call.nodes,
             call.statements,
             call.state,
@@ -476,11 +425,10 @@ impl<S: Subject> Sequence<'_, S> {
 
     /// The instructions of the sequence so far.
     fn history(&self) -> String {
-        let lines = self.lifted.iter().map(|(settings, insn)| {
+        let lines = self.lifted.iter().map(|insn| {
             let operands: Vec<String> = insn.used().iter().map(operand).collect();
             let name = insn.mnemonic.used().escape_ascii();
-            let dialect = settings.dialect;
-            format!("  {name} {} in dialect {dialect}\n", operands.join(", "))
+            format!("  {name} {}\n", operands.join(", "))
         });
         format!("sequence {}:\n{}", self.number, lines.collect::<String>())
     }

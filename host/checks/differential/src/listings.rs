@@ -6,15 +6,12 @@ use std::fmt::Write;
 use std::io;
 
 use plain::state::{DEPTH, INPUTS, NODES, ROW, SLOTS, STATE, STATEMENTS, TEMPORARIES};
-use plain::{
-    BARE, INPUT_TOO_LONG, Instruction, MODELLED, NO_DIALECT, OVERFLOWED, Outcome, PARENTHESISED,
-    Settings, read,
-};
+use plain::{INPUT_TOO_LONG, MODELLED, OVERFLOWED, Outcome, read};
 use program::Program;
 use sleetgate_sys::DETAIL;
 
 use crate::lift;
-use crate::programs::{Kind, batch, words};
+use crate::programs::{Kind, batch};
 use crate::report::{Report, hex};
 use crate::rng::Rng;
 use crate::trees::Follower;
@@ -27,17 +24,16 @@ const MOST_BYTES: usize = 16_384;
 /// Shorter inputs that are tried to cut a difference down.
 const TRIES: usize = 400;
 
-/// Anything that makes a listing of an input when it is started with some
-/// words.
+/// Anything that makes a listing of an input.
 pub trait Lists {
     /// # Errors
     /// Where it cannot be run.
-    fn listing(&self, words: &[&str], input: &[u8]) -> io::Result<Vec<u8>>;
+    fn listing(&self, input: &[u8]) -> io::Result<Vec<u8>>;
 }
 
 impl Lists for Program {
-    fn listing(&self, words: &[&str], input: &[u8]) -> io::Result<Vec<u8>> {
-        Program::listing(self, words, input)
+    fn listing(&self, input: &[u8]) -> io::Result<Vec<u8>> {
+        Program::listing(self, input)
     }
 }
 
@@ -47,10 +43,9 @@ pub struct Expected {
     pub text: String,
     /// The refusal that ends it, or 0.
     pub number: u32,
-    /// The settings of the run, and the instructions that were lifted.
-    pub settings: Settings,
-    pub lifted: Vec<Instruction>,
-    /// How many of them were declined.
+    /// Instructions that were lifted, and of them those that were
+    /// declined.
+    pub lifted: u64,
     pub declined: u64,
     /// The details of the declines that have one.
     pub details: Vec<u32>,
@@ -67,141 +62,105 @@ pub fn run(subject: &impl Lists, size: u64, seed: u64) -> io::Result<Report> {
     let mut report = Report::default();
     while report.compared < size {
         for (kind, input) in batch(&mut rng) {
-            let words = words(&mut rng);
-            let started = Started { subject, words };
-            started.compare(kind, &input, &mut report)?;
+            compare(subject, kind, &input, &mut report)?;
         }
     }
     Ok(report)
 }
 
-/// A subject, and the words that it is started with.
-struct Started<'a, S> {
-    subject: &'a S,
-    words: &'a [&'a str],
-}
-
-impl<S: Lists> Started<'_, S> {
-    fn compare(&self, kind: Kind, input: &[u8], report: &mut Report) -> io::Result<()> {
-        let expected = expect(self.words, input);
-        tally(&expected, report);
-        report.note(kind.name(), 1);
-        if let Some(tree) = &expected.tree {
-            report.differs(|| format!("{tree}\ninput {}", hex(input)));
-        }
-        if self.listing(input)? != expected.text.as_bytes() {
-            let said = match report.first {
-                None => self.say(kind, &self.smallest(input)?)?,
-                Some(_) => String::new(),
-            };
-            report.differs(|| said);
-        }
-        Ok(())
-    }
-
-    fn listing(&self, input: &[u8]) -> io::Result<Vec<u8>> {
-        self.subject.listing(self.words, input)
-    }
-
-    fn differs(&self, input: &[u8]) -> io::Result<bool> {
-        Ok(self.listing(input)? != expect(self.words, input).text.as_bytes())
-    }
-
-    /// A short input that still differs: records are left out as long as it
-    /// does, and then bytes.
-    fn smallest(&self, input: &[u8]) -> io::Result<Vec<u8>> {
-        let mut records = Vec::new();
-        let mut at = 0;
-        while let Outcome::Record { next, .. } = read(input, at) {
-            records.push(input[at..next].to_vec());
-            at = next;
-        }
-        records.push(input[at..].to_vec());
-        let mut tries = TRIES;
-        let short = self.fewest(records, &mut tries)?;
-        let bytes = short.into_iter().map(|byte| vec![byte]).collect();
-        self.fewest(bytes, &mut tries)
-    }
-
-    /// The joined parts without those that are not needed: at first half of
-    /// them are left out at a time, in the end single ones.
-    fn fewest(&self, mut parts: Vec<Vec<u8>>, tries: &mut usize) -> io::Result<Vec<u8>> {
-        let mut count = parts.len().div_ceil(2);
-        while count > 0 {
-            let mut at = 0;
-            while at < parts.len() && *tries > 0 {
-                *tries -= 1;
-                let mut fewer = parts.clone();
-                fewer.drain(at..parts.len().min(at + count));
-                if self.differs(&fewer.concat())? {
-                    parts = fewer;
-                } else {
-                    at += count;
-                }
-            }
-            count /= 2;
-        }
-        Ok(parts.concat())
-    }
-
-    /// The first lines that differ, with the words and the input.
-    fn say(&self, kind: Kind, input: &[u8]) -> io::Result<String> {
-        let (expected, got) = (expect(self.words, input).text, self.listing(input)?);
-        let got = String::from_utf8_lossy(&got);
-        let mut lines = (1..).zip(expected.lines().zip(got.lines()));
-        let first = match lines.find(|(_, (e, g))| e != g) {
-            Some((number, (e, g))) => format!("line {number}\nexpected {e}\ngot      {g}"),
-            None => format!("expected\n{expected}\ngot\n{got}"),
-        };
-        let (name, words, bytes) = (kind.name(), self.words, input.len());
-        Ok(format!(
-            "{name}, started with {words:?}, cut down to {bytes} bytes: {}\n{first}",
-            hex(input)
-        ))
-    }
-}
-
-/// Count a run that is expected.
-fn tally(expected: &Expected, report: &mut Report) {
+fn compare(subject: &impl Lists, kind: Kind, input: &[u8], report: &mut Report) -> io::Result<()> {
+    let expected = expect(input);
     report.count(expected.number);
-    report.note("instructions lifted", expected.lifted.len() as u64);
+    report.note(kind.name(), 1);
+    report.note("instructions lifted", expected.lifted);
     report.note("instructions declined", expected.declined);
     for &detail in &expected.details {
         report.count_detail(detail);
     }
-    for insn in &expected.lifted {
-        report.count_dialect(expected.settings, insn);
+    if let Some(tree) = &expected.tree {
+        report.differs(|| format!("{tree}\ninput {}", hex(input)));
     }
+    if subject.listing(input)? != expected.text.as_bytes() {
+        let said = match report.first {
+            None => say(subject, kind, &smallest(subject, input)?)?,
+            Some(_) => String::new(),
+        };
+        report.differs(|| said);
+    }
+    Ok(())
 }
 
-/// The settings that words ask for, or none where they name no dialect.
-fn asked(words: &[&str]) -> Option<Settings> {
-    match words {
-        [] | ["--dialect", "0"] => Some(Settings::of(PARENTHESISED)),
-        ["--dialect", "1"] => Some(Settings::of(BARE)),
-        _ => None,
-    }
+fn differs(subject: &impl Lists, input: &[u8]) -> io::Result<bool> {
+    Ok(subject.listing(input)? != expect(input).text.as_bytes())
 }
 
-/// The run over an input, by the rules of the manual, section 8. Words that
-/// are not about the dialect are not meant here.
+/// A short input that still differs: records are left out as long as it
+/// does, and then bytes.
+fn smallest(subject: &impl Lists, input: &[u8]) -> io::Result<Vec<u8>> {
+    let mut records = Vec::new();
+    let mut at = 0;
+    while let Outcome::Record { next, .. } = read(input, at) {
+        records.push(input[at..next].to_vec());
+        at = next;
+    }
+    records.push(input[at..].to_vec());
+    let mut tries = TRIES;
+    let short = fewest(subject, records, &mut tries)?;
+    let bytes = short.into_iter().map(|byte| vec![byte]).collect();
+    fewest(subject, bytes, &mut tries)
+}
+
+/// The joined parts without those that are not needed: at first half of
+/// them are left out at a time, in the end single ones.
+fn fewest(subject: &impl Lists, mut parts: Vec<Vec<u8>>, tries: &mut usize) -> io::Result<Vec<u8>> {
+    let mut count = parts.len().div_ceil(2);
+    while count > 0 {
+        let mut at = 0;
+        while at < parts.len() && *tries > 0 {
+            *tries -= 1;
+            let mut fewer = parts.clone();
+            fewer.drain(at..parts.len().min(at + count));
+            if differs(subject, &fewer.concat())? {
+                parts = fewer;
+            } else {
+                at += count;
+            }
+        }
+        count /= 2;
+    }
+    Ok(parts.concat())
+}
+
+/// The first lines that differ, with the input.
+fn say(subject: &impl Lists, kind: Kind, input: &[u8]) -> io::Result<String> {
+    let (expected, got) = (expect(input).text, subject.listing(input)?);
+    let got = String::from_utf8_lossy(&got);
+    let mut lines = (1..).zip(expected.lines().zip(got.lines()));
+    let first = match lines.find(|(_, (e, g))| e != g) {
+        Some((number, (e, g))) => format!("line {number}\nexpected {e}\ngot      {g}"),
+        None => format!("expected\n{expected}\ngot\n{got}"),
+    };
+    let (name, bytes) = (kind.name(), input.len());
+    Ok(format!(
+        "{name}, cut down to {bytes} bytes: {}\n{first}",
+        hex(input)
+    ))
+}
+
+/// The run over an input, by the rules of the manual, section 8.
 #[must_use]
-pub fn expect(words: &[&str], input: &[u8]) -> Expected {
-    let asked = asked(words);
+pub fn expect(input: &[u8]) -> Expected {
     let mut work = Work {
-        settings: asked.unwrap_or_default(),
         state: [0; STATE],
         nodes: vec![0; NODE_ROOM * ROW],
         statements: vec![0; STATEMENT_ROOM * ROW],
         follower: Follower::default(),
-        lifted: Vec::new(),
+        lifted: 0,
         declined: 0,
         details: Vec::new(),
         tree: None,
     };
-    let refused = if asked.is_none() {
-        Some((NO_DIALECT, 0))
-    } else if input.len() > MOST_BYTES {
+    let refused = if input.len() > MOST_BYTES {
         Some((INPUT_TOO_LONG, 0))
     } else {
         work.records(input)
@@ -209,7 +168,6 @@ pub fn expect(words: &[&str], input: &[u8]) -> Expected {
     Expected {
         text: work.text(refused),
         number: refused.map_or(MODELLED, |(number, _)| number),
-        settings: work.settings,
         lifted: work.lifted,
         declined: work.declined,
         details: work.details,
@@ -219,12 +177,11 @@ pub fn expect(words: &[&str], input: &[u8]) -> Expected {
 
 /// A run under way.
 struct Work {
-    settings: Settings,
     state: [u64; STATE],
     nodes: Vec<u64>,
     statements: Vec<u64>,
     follower: Follower,
-    lifted: Vec<Instruction>,
+    lifted: u64,
     declined: u64,
     details: Vec<u32>,
     tree: Option<String>,
@@ -249,23 +206,21 @@ impl Work {
         }
     }
 
-    fn lift(&mut self, insn: &Instruction) -> u32 {
+    fn lift(&mut self, insn: &plain::Instruction) -> u32 {
         let (nodes, statements) = (self.nodes.len(), self.statements.len());
-        let (settings, flat) = (self.settings.to_bytes(), insn.to_flat());
-        let expected = lift::expect(&settings, &flat, &self.state, nodes, statements, DETAIL);
+        let expected = lift::expect(&insn.to_flat(), &self.state, nodes, statements, DETAIL);
         let Some(step) = expected.step else {
             return expected.number;
         };
         let before = self.state;
         lift::write(&mut self.nodes, &mut self.statements, &before, &step);
         self.state = step.state;
-        self.lifted.push(*insn);
+        self.lifted += 1;
         self.declined += u64::from(expected.number != MODELLED);
         self.details
             .extend((step.detail != 0).then_some(step.detail));
         let lists = (self.nodes.as_slice(), self.statements.as_slice());
-        let (settings, after) = (self.settings, &self.state);
-        let followed = self.follower.follow(settings, insn, &before, after, lists);
+        let followed = self.follower.follow(insn, &before, &self.state, lists);
         if let Err(tree) = followed {
             self.tree.get_or_insert(tree);
         }

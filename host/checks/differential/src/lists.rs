@@ -177,7 +177,7 @@ fn lifted(works: &[&str]) -> List {
     for sequence in (0..SEQUENCES).flat_map(|at| sequences.iter().map(move |s| &s[at])) {
         state[..=DEPTH].fill(0);
         for insn in sequence {
-            let next = steps::step(plain::Settings::default(), &state, insn);
+            let next = steps::step(&state, insn);
             if next.state[NODES] > MOST as u64 {
                 let sorts = plain::sorts::sorts(&nodes, nodes.len() / ROW);
                 let sorts = sorts.expect("a lifted list has sorts");

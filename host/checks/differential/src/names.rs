@@ -142,9 +142,7 @@ mod tests {
         for name in super::WRONG {
             for given in &lists {
                 let insn = plain::Instruction::new(0, name.as_bytes(), given);
-                for settings in [0, 1].map(plain::Settings::of) {
-                    assert_eq!(crate::oracle::classify(settings, &insn), None, "{insn:?}");
-                }
+                assert_eq!(crate::oracle::classify(&insn), None, "{insn:?}");
             }
         }
     }

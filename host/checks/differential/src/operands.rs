@@ -23,25 +23,7 @@ pub const ODD_PLACES: [&str; 12] = [
     "st(+000000000000000000000000002)",
 ];
 
-/// Spellings of a bare `st`, which is a place in one dialect.
-pub const BARE_PLACES: [&str; 11] = [
-    "st",
-    "ST",
-    "sT",
-    "St",
-    "st ",
-    " st ",
-    "\tst",
-    "ST\n",
-    "\x0bSt\x0c\r",
-    "                              st",
-    "ST                              ",
-];
-
-/// Texts that are nearly a bare `st`, and a place in no dialect.
-pub const NEARLY_BARE: [&str; 7] = ["s", "stx", "sst", "s t", "st\0", "st\x1f", "st st"];
-
-/// Register texts that are no places; `st` is one in one dialect.
+/// Register texts that are no places.
 const NO_PLACES: [&str; 42] = [
     "",
     " ",
@@ -95,15 +77,7 @@ const REGISTERS: [&str; 13] = [
 /// Widths of memory operands, 0 for unknown.
 pub const WIDTHS: [u16; 9] = [8, 16, 32, 64, 80, 128, 0, 15, 33];
 
-/// Registers with the spellings of a bare `st` that [`all`] does not have,
-/// and with what is nearly one.
-#[must_use]
-pub fn bare() -> Vec<Operand> {
-    let texts = BARE_PLACES[1..].iter().chain(&NEARLY_BARE);
-    texts.map(|text| register(text)).collect()
-}
-
-/// Every other operand of a run.
+/// Every operand of a run.
 #[must_use]
 pub fn all() -> Vec<Operand> {
     let texts = PLACES.iter().chain(&ODD_PLACES).chain(&NO_PLACES);
@@ -147,11 +121,11 @@ fn others() -> [Operand; 2] {
 
 #[cfg(test)]
 mod tests {
-    use super::{all, bare};
+    use super::all;
 
     #[test]
     fn operands_differ() {
-        let all = [all(), bare()].concat();
+        let all = all();
         for (i, operand) in all.iter().enumerate() {
             assert!(!all[..i].contains(operand), "{operand:?} stands twice");
         }

@@ -1,7 +1,7 @@
 //! The Rust's answers: an instruction (the manual, section 2) is handed
 //! to `x87.rs` as r2SMT's own.
 
-use plain::{BARE, Instruction, Operand, Settings};
+use plain::Instruction;
 use r2smt_common::Address;
 use r2smt_common::program::{self, Memory, OperandKind};
 
@@ -13,47 +13,36 @@ pub fn at_hand() -> bool {
 
 /// The form's words, or `None` where `classify` declines.
 #[must_use]
-pub fn classify(settings: Settings, insn: &Instruction) -> Option<[u64; 8]> {
-    r2smt_slicer::classify(&spelt(settings, insn))
+pub fn classify(insn: &Instruction) -> Option<[u64; 8]> {
+    r2smt_slicer::classify(&spelt(insn))
 }
 
 /// The effect's answers, or `None` where `x87_effect` declines.
 #[must_use]
-pub fn effect(settings: Settings, insn: &Instruction) -> Option<[bool; 7]> {
-    r2smt_slicer::effect(&spelt(settings, insn))
+pub fn effect(insn: &Instruction) -> Option<[bool; 7]> {
+    r2smt_slicer::effect(&spelt(insn))
 }
 
 /// The instruction as r2SMT spells it. It is in the domain: not refused.
 #[must_use]
-pub fn spelt(settings: Settings, insn: &Instruction) -> program::Instruction {
+pub fn spelt(insn: &Instruction) -> program::Instruction {
     program::Instruction {
         address: Address(insn.address),
         mnemonic: text(insn.mnemonic.used()),
-        operands: insn.used().iter().map(|o| operand(settings, o)).collect(),
+        operands: insn.used().iter().map(operand).collect(),
     }
 }
 
-fn operand(settings: Settings, operand: &Operand) -> program::Operand {
+fn operand(operand: &plain::Operand) -> program::Operand {
     let (kind, raw) = match operand.kind {
-        plain::REGISTER => (OperandKind::Register, register(settings, operand)),
+        plain::REGISTER => (OperandKind::Register, text(operand.text.used())),
         plain::MEMORY => (OperandKind::Memory, memory(operand).spelled()),
         _ => (OperandKind::Other, "other".to_string()),
     };
     program::Operand { kind, raw }
 }
 
-/// A register's text in the one dialect that the Rust has: where a bare `st`
-/// is a place, it is handed over as `st(0)`.
-fn register(settings: Settings, operand: &Operand) -> String {
-    let text = text(operand.text.used());
-    let is_bare = text.trim().eq_ignore_ascii_case("st");
-    if settings.dialect == BARE && is_bare {
-        return "st(0)".to_string();
-    }
-    text
-}
-
-fn memory(operand: &Operand) -> Memory {
+fn memory(operand: &plain::Operand) -> Memory {
     Memory {
         width: operand.width,
         known: operand.known == 1,

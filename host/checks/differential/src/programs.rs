@@ -2,7 +2,6 @@
 
 use plain::{Instruction, Operand, TEXT, record};
 
-use crate::dialects::{Manner, with_bare};
 use crate::instructions::{Grid, fill_unused};
 use crate::rng::Rng;
 use crate::sequences::Profile;
@@ -18,38 +17,6 @@ const TELLING: [u8; 14] = [0, 1, 2, 3, 4, 31, 32, 33, 0x45, 0x49, 127, 128, 0x87
 
 /// Instructions that fill a list fast: by nodes, by statements, by both.
 const FILLING: [&str; 6] = ["fcom", "fcompp", "fucom", "fcomi", "fcomip", "fldl2e"];
-
-/// The words that the program is started with.
-type Words = &'static [&'static str];
-
-/// Words that ask for a dialect.
-const DIALECTS: [Words; 3] = [&[], &["--dialect", "0"], &["--dialect", "1"]];
-
-/// Words that ask for a dialect that is none.
-pub const WRONG_DIALECTS: [Words; 12] = [
-    &["--dialect"],
-    &["--dialect", ""],
-    &["--dialect", "2"],
-    &["--dialect", "9"],
-    &["--dialect", "00"],
-    &["--dialect", "01"],
-    &["--dialect", "10"],
-    &["--dialect", "+1"],
-    &["--dialect", " 1"],
-    &["--dialect", "0 "],
-    &["--dialect", "--dialect"],
-    &["--dialect", "1111111111111111111111111111111111111111"],
-];
-
-/// Mostly words that ask for a dialect.
-pub fn words(rng: &mut Rng) -> Words {
-    let all: &[Words] = if rng.one_in(16) {
-        &WRONG_DIALECTS
-    } else {
-        &DIALECTS
-    };
-    all[rng.below(all.len())]
-}
 
 /// What an input is meant to try.
 #[derive(Debug, Clone, Copy, PartialEq, Eq)]
@@ -113,12 +80,10 @@ pub fn batch(rng: &mut Rng) -> Vec<(Kind, Vec<u8>)> {
 
 /// A sequence of a profile; texts that no record has are cut.
 fn sequence(grid: &Grid, rng: &mut Rng, profile: Profile) -> Vec<u8> {
-    let manner = Manner::random(rng);
     let mut bytes = Vec::new();
     let mut depth = 0;
     for _ in 0..profile.length {
-        let mut insn = profile.next(grid, rng, depth);
-        manner.spell(&mut insn, rng);
+        let insn = profile.next(grid, rng, depth);
         depth = (depth + rng.below(3)).saturating_sub(1).min(8);
         bytes.extend(record(&insn));
     }
@@ -130,11 +95,7 @@ fn sequence(grid: &Grid, rng: &mut Rng, profile: Profile) -> Vec<u8> {
 fn short(grid: &Grid, rng: &mut Rng) -> Vec<u8> {
     let mut bytes = Vec::new();
     for _ in 0..rng.between(1, 3) {
-        let mut insn = if rng.one_in(2) {
-            with_bare(rng)
-        } else {
-            grid.random(rng)
-        };
+        let mut insn = grid.random(rng);
         fill_unused(&mut insn, rng);
         bytes.extend(record(&insn));
     }

@@ -2,10 +2,9 @@
 //! that do so one after the other.
 
 use plain::state::{DEPTH, NODES, ROW, SLOTS, STATE, STATEMENTS};
-use plain::{FLAT, Instruction, OVERFLOWED, Outcome, SETTINGS, Settings, TOO_SHORT, read, record};
+use plain::{FLAT, OVERFLOWED, TOO_SHORT, record};
 use sleetgate_sys::{DETAIL, READ, STEP};
 
-use crate::dialects::{Manner, any, lent, with_bare};
 use crate::inputs::{Input, batch};
 use crate::instructions::Grid;
 use crate::report::{Report, hex};
@@ -36,15 +35,6 @@ struct Lent {
     told: Vec<u64>,
 }
 
-impl Lent {
-    /// The state, and how long the lists are.
-    fn say(&self) -> String {
-        let (nodes, statements) = (self.nodes.len(), self.statements.len());
-        let state = &self.state;
-        format!("state {state:?}, {nodes} and {statements} words of lists")
-    }
-}
-
 /// Compare at least `size` calls.
 pub fn run(subject: &impl RecordLifter, size: u64, seed: u64) -> Report {
     let grid = Grid::default();
@@ -54,43 +44,21 @@ pub fn run(subject: &impl RecordLifter, size: u64, seed: u64) -> Report {
         for _ in 0..16 {
             whole(subject, &grid, &mut rng, &mut report);
         }
-        for input in batch(&mut rng, |rng| instruction(&grid, rng)) {
-            let words = random(&mut rng);
-            let settings = random_settings(&mut rng);
-            compare(subject, &settings, &input, words, &mut report);
+        for input in batch(&grid, &mut rng) {
+            let lent = random(&mut rng);
+            compare(subject, &input, lent, &mut report);
         }
     }
     report
 }
 
-/// An instruction of the grid, or one with a bare `st`.
-fn instruction(grid: &Grid, rng: &mut Rng) -> Instruction {
-    if rng.one_in(2) {
-        with_bare(rng)
-    } else {
-        grid.random(rng)
-    }
-}
-
-/// The bytes of any dialect; now and then too few.
-fn random_settings(rng: &mut Rng) -> Vec<u8> {
-    let dialect = any(rng);
-    let mut settings = lent(dialect, rng);
-    if rng.one_in(64) {
-        settings.truncate(rng.below(SETTINGS));
-    }
-    settings
-}
-
 /// A whole input, from record to record until something is refused.
 fn whole(subject: &impl RecordLifter, grid: &Grid, rng: &mut Rng, report: &mut Report) {
     let profile = Profile::random(rng);
-    let manner = Manner::random(rng);
     let length = profile.length.min(LONGEST);
     let mut bytes = Vec::new();
     for _ in 0..length {
-        let mut insn = profile.next(grid, rng, SLOTS / 2);
-        manner.spell(&mut insn, rng);
+        let insn = profile.next(grid, rng, SLOTS / 2);
         bytes.extend(record(&insn));
     }
     bytes.extend(END);
@@ -100,19 +68,18 @@ fn whole(subject: &impl RecordLifter, grid: &Grid, rng: &mut Rng, report: &mut R
     } else {
         length * ROWS
     };
-    let mut words = Lent {
+    let mut lent = Lent {
         state: vec![0; STATE],
         nodes: vec![UNWRITTEN; rows * ROW + rng.below(ROW)],
         statements: vec![UNWRITTEN; rows * ROW],
         told: vec![UNWRITTEN; STEP],
     };
     loop {
-        let settings = manner.settings(rng).to_bytes();
-        words = compare(subject, &settings, &input, words, report);
-        if words.told[1] == 0 {
+        lent = compare(subject, &input, lent, report);
+        if lent.told[1] == 0 {
             return;
         }
-        input.at = usize::try_from(words.told[0]).expect("a place");
+        input.at = usize::try_from(lent.told[0]).expect("a place");
     }
 }
 
@@ -147,19 +114,16 @@ fn random(rng: &mut Rng) -> Lent {
 }
 
 /// Compare one call, and give what was lent after it.
-fn compare(
-    subject: &impl RecordLifter,
-    settings: &[u8],
-    input: &Input,
-    before: Lent,
-    report: &mut Report,
-) -> Lent {
+fn compare(subject: &impl RecordLifter, input: &Input, before: Lent, report: &mut Report) -> Lent {
     let mut expected = before.clone();
-    let number = two_calls(subject, settings, input, &mut expected);
-    tally(settings, input, number, &expected.told, report);
+    let number = two_calls(subject, input, &mut expected);
+    report.count(number);
+    if let Some(&[_, 1, detail]) = expected.told.first_chunk() {
+        report.note("records lifted", 1);
+        report.count_detail(u32::try_from(detail).unwrap_or(0));
+    }
     let mut got = before.clone();
     let told = subject.lift_record(
-        settings,
         &input.bytes,
         input.at,
         &mut got.state,
@@ -169,44 +133,28 @@ fn compare(
     );
     if told != number || got != expected {
         report.differs(|| {
-            let asked = format!("lift_record at {} of {}", input.at, hex(&input.bytes));
-            let answers = say((number, &expected), (told, &got));
             format!(
-                "{asked}\nsettings {settings:?}, {}\n{answers}",
-                before.say()
+                "lift_record at {} of {}\nstate {:?}, {} and {} words of lists\n\
+                 expected {number} {:?} {:?}\ngot      {told} {:?} {:?}\nlists equal: {}",
+                input.at,
+                hex(&input.bytes),
+                before.state,
+                before.nodes.len(),
+                before.statements.len(),
+                expected.told,
+                expected.state,
+                got.told,
+                got.state,
+                (got.nodes, got.statements)
+                    == (expected.nodes.clone(), expected.statements.clone())
             )
         });
     }
     expected
 }
 
-/// The numbers and words that were expected and got.
-fn say(expected: (u32, &Lent), got: (u32, &Lent)) -> String {
-    let words = |(number, lent): (u32, &Lent)| format!("{number} {:?} {:?}", lent.told, lent.state);
-    let same = expected.1.nodes == got.1.nodes && expected.1.statements == got.1.statements;
-    format!(
-        "expected {}\ngot      {}\nlists equal: {same}",
-        words(expected),
-        words(got)
-    )
-}
-
-/// Count a case that expects this number and these words.
-fn tally(settings: &[u8], input: &Input, number: u32, told: &[u64], report: &mut Report) {
-    report.count(number);
-    if let Some(&[_, 1, detail]) = told.first_chunk() {
-        report.note("records lifted", 1);
-        report.count_detail(u32::try_from(detail).unwrap_or(0));
-        if let (Outcome::Record { insn, .. }, Some(settings)) =
-            (read(&input.bytes, input.at), Settings::from_bytes(settings))
-        {
-            report.count_dialect(settings, &insn);
-        }
-    }
-}
-
 /// Read, then lift: places and the detail as the one call tells them.
-fn two_calls(subject: &impl Subject, settings: &[u8], input: &Input, lent: &mut Lent) -> u32 {
+fn two_calls(subject: &impl Subject, input: &Input, lent: &mut Lent) -> u32 {
     let Lent {
         state,
         nodes,
@@ -217,7 +165,7 @@ fn two_calls(subject: &impl Subject, settings: &[u8], input: &Input, lent: &mut 
         return TOO_SHORT;
     };
     told.fill(0);
-    if settings.len() < SETTINGS || state.len() < STATE {
+    if state.len() < STATE {
         return TOO_SHORT;
     }
     let (mut flat, mut read) = ([BEYOND; FLAT + 7], [0; READ]);
@@ -227,7 +175,7 @@ fn two_calls(subject: &impl Subject, settings: &[u8], input: &Input, lent: &mut 
         return number;
     }
     let mut detail = [UNWRITTEN; DETAIL];
-    let number = subject.lift(settings, &flat, state, nodes, statements, &mut detail);
+    let number = subject.lift(&flat, state, nodes, statements, &mut detail);
     if number > OVERFLOWED {
         told[..READ].copy_from_slice(&[input.at as u64, 0]);
     }

@@ -37,7 +37,7 @@ pub fn run(subject: &impl Subject, size: u64, seed: u64) -> Report {
     let mut rng = Rng::new(seed);
     let mut report = Report::default();
     while report.compared < size {
-        for input in batch(&mut rng, |rng| grid.random(rng)) {
+        for input in batch(&grid, &mut rng) {
             let rooms = random_rooms(&mut rng);
             compare(subject, &input, rooms, &mut report);
         }

@@ -2,12 +2,10 @@
 
 use std::fmt;
 
-use plain::{DETAILS, Instruction, Settings};
-
-use crate::decided::Decided;
+use plain::DETAILS;
 
 /// The numbers of answers (the manual, section 7).
-const NUMBERS: [(u32, &str); 18] = [
+const NUMBERS: [(u32, &str); 17] = [
     (0, "done, modelled, or a record or the end"),
     (1, "declined, unmodelled form"),
     (2, "declined, overflow"),
@@ -24,7 +22,6 @@ const NUMBERS: [(u32, &str); 18] = [
     (13, "input too long"),
     (31, "root not in the list"),
     (32, "text does not fit"),
-    (33, "dialect"),
     (41, "no text of the subset"),
 ];
 
@@ -46,8 +43,6 @@ pub struct Report {
     numbers: [u64; NUMBERS.len()],
     /// How many declines expect each detail.
     pub details: [u64; DETAILS.len()],
-    /// How many the dialect decided.
-    pub decided: Decided,
     /// Further counts, by name.
     pub notes: Vec<(&'static str, u64)>,
     /// How many differed.
@@ -74,11 +69,6 @@ impl Report {
         if let Some(at) = DETAILS.iter().position(|&d| d == detail) {
             self.details[at] += 1;
         }
-    }
-
-    /// Count an instruction that is read in these settings.
-    pub fn count_dialect(&mut self, settings: Settings, insn: &Instruction) {
-        self.decided.count(settings, insn);
     }
 
     /// Add to a named count.
@@ -117,7 +107,6 @@ impl fmt::Display for Report {
                 writeln!(f, "  with detail {detail} ({name}): {count}")?;
             }
         }
-        write!(f, "{}", self.decided)?;
         for (name, count) in &self.notes {
             writeln!(f, "  {name}: {count}")?;
         }

@@ -1,9 +1,9 @@
 //! The stored samples: instructions and records with their answers, for
 //! the tests that have no Rust at hand.
 //!
-//! `instructions.bin` has rows of 251 bytes: the 177 of an instruction,
+//! `instructions.bin` has rows of 250 bytes: the 177 of an instruction,
 //! the answer, eight form words of eight bytes, low byte first, seven
-//! bytes of its effect, the detail of a decline, and the settings.
+//! bytes of its effect, and the detail of a decline.
 //!
 //! `records.bin` has rows of: input length, start place (two bytes each,
 //! low first), the answer, the next or offending place (two bytes), one
@@ -12,20 +12,19 @@
 
 use std::collections::BTreeMap;
 
-use plain::{BARE, DETAILS, FLAT, Instruction, Operand, Outcome, SETTINGS, Settings, read};
+use plain::{DETAILS, FLAT, Instruction, Operand, Outcome, read};
 
-use crate::dialects::{known, unknown, write_bare};
 use crate::expect;
 use crate::inputs::{Input, batch};
 use crate::instructions::{Grid, fill_unused, put_out_of_range};
 use crate::names::NAMES;
-use crate::operands::{self, BARE_PLACES};
+use crate::operands;
 use crate::oracle;
 use crate::records::told;
 use crate::rng::Rng;
 
 /// Bytes of a row of `instructions.bin`.
-pub const ROW: usize = FLAT + 1 + 8 * 8 + 7 + 1 + SETTINGS;
+pub const ROW: usize = FLAT + 1 + 8 * 8 + 7 + 1;
 /// Bytes of a row of `records.bin` before its input.
 pub const HEAD: usize = 8 + FLAT;
 
@@ -36,8 +35,6 @@ const DECLINES: usize = 5;
 const NEAR: usize = 3;
 /// Instructions out of range.
 const REFUSED: usize = 600;
-/// Instructions in dialects that are none.
-const NO_DIALECTS: usize = 300;
 /// Rows of `records.bin`.
 const RECORDS: usize = 1200;
 
@@ -51,63 +48,9 @@ pub fn instructions() -> Vec<u8> {
     }
     chosen.extend(near_misses(&mut rng));
     chosen.extend(out_of_range(&mut rng));
-    let plainest = chosen.into_iter().map(|insn| (Settings::default(), insn));
-    let mut chosen: Vec<(Settings, Instruction)> = plainest.collect();
-    chosen.extend(bare(&mut rng));
-    chosen.extend(no_dialects(&mut rng));
-    let flats = chosen.iter().map(|(set, insn)| (*set, insn.to_flat()));
-    let inside = flats.filter(|(_, flat)| !expect::blanks_around_ax(flat));
-    let rows = inside.flat_map(|(settings, flat)| instruction_row(settings, &flat));
-    rows.collect()
-}
-
-/// Lists of operands with a bare `st`, in any of its spellings: as each of
-/// one or two operands, beside a place or memory.
-pub fn bare_lists(rng: &mut Rng) -> [Vec<Operand>; 6] {
-    let mut st = || Operand::register(rng.pick(&BARE_PLACES).as_bytes());
-    let place = Operand::register(b"st(1)");
-    let memory = Operand::memory(32, true, 9, 0);
-    [
-        vec![st()],
-        vec![st(), st()],
-        vec![st(), place],
-        vec![place, st()],
-        vec![memory, st()],
-        vec![st(), memory],
-    ]
-}
-
-/// Each name with a bare `st` in the dialect that has it; some once more in
-/// either, where a few are only nearly one.
-fn bare(rng: &mut Rng) -> Vec<(Settings, Instruction)> {
-    let mut chosen = Vec::new();
-    for name in NAMES {
-        for given in bare_lists(rng) {
-            let mut insn = Instruction::new(rng.word(), name.as_bytes(), &given);
-            chosen.push((Settings::of(BARE), insn));
-            if rng.one_in(2) {
-                write_bare(&mut insn, rng);
-                fill_unused(&mut insn, rng);
-                chosen.push((known(rng), insn));
-            }
-        }
-    }
-    chosen
-}
-
-/// Instructions in dialects that are none, every third out of range.
-fn no_dialects(rng: &mut Rng) -> Vec<(Settings, Instruction)> {
-    let grid = Grid::default();
-    let mut chosen = Vec::new();
-    for round in 0..NO_DIALECTS {
-        let mut insn = grid.random(rng);
-        write_bare(&mut insn, rng);
-        if round % 3 == 0 {
-            put_out_of_range(&mut insn, rng);
-        }
-        chosen.push((unknown(rng), insn));
-    }
-    chosen
+    let flats = chosen.iter().map(Instruction::to_flat);
+    let inside = flats.filter(|flat| !expect::blanks_around_ax(flat));
+    inside.flat_map(|flat| instruction_row(&flat)).collect()
 }
 
 /// One name: every form that it can take, in its plainest and in another
@@ -117,7 +60,7 @@ fn of_name(name: &[u8], rng: &mut Rng) -> Vec<Instruction> {
     let mut declined = Vec::new();
     for given in operand_lists() {
         let insn = Instruction::new(rng.word(), name, &given);
-        match oracle::classify(Settings::default(), &insn) {
+        match oracle::classify(&insn) {
             Some(words) => {
                 let entry = forms.entry(words).or_insert((insn, insn));
                 entry.1 = insn;
@@ -140,8 +83,7 @@ fn of_name(name: &[u8], rng: &mut Rng) -> Vec<Instruction> {
 fn one_of_each(declined: &[Instruction], rng: &mut Rng) -> Vec<Instruction> {
     let mut chosen = Vec::new();
     for detail in DETAILS {
-        let why = |insn| plain::why(Settings::default(), insn);
-        let alike = declined.iter().filter(|insn| why(insn) == detail);
+        let alike = declined.iter().filter(|insn| plain::why(insn) == detail);
         let alike: Vec<&Instruction> = alike.collect();
         if !alike.is_empty() {
             let mut insn = **rng.pick(&alike);
@@ -158,8 +100,7 @@ pub fn declines(name: &str, rng: &mut Rng) -> Vec<Instruction> {
     let insns = lists
         .iter()
         .map(|given| Instruction::new(4096, name.as_bytes(), given));
-    let is_declined = |insn: &Instruction| oracle::classify(Settings::default(), insn).is_none();
-    let declined: Vec<Instruction> = insns.filter(is_declined).collect();
+    let declined: Vec<Instruction> = insns.filter(|i| oracle::classify(i).is_none()).collect();
     one_of_each(&declined, rng)
 }
 
@@ -205,11 +146,10 @@ fn out_of_range(rng: &mut Rng) -> Vec<Instruction> {
     chosen
 }
 
-fn instruction_row(settings: Settings, flat: &[u8; FLAT]) -> Vec<u8> {
-    let settings = settings.to_bytes();
-    let form = expect::classify(&settings, flat, 8);
-    let effect = expect::effect(&settings, flat, 7);
-    let why = expect::why(&settings, flat, 1);
+fn instruction_row(flat: &[u8; FLAT]) -> Vec<u8> {
+    let form = expect::classify(flat, 8);
+    let effect = expect::effect(flat, 7);
+    let why = expect::why(flat, 1);
     let numbers = [form.number, effect.number, why.number];
     assert_eq!(numbers, [form.number; 3], "one answer for all calls");
     let mut row = flat.to_vec();
@@ -217,7 +157,6 @@ fn instruction_row(settings: Settings, flat: &[u8; FLAT]) -> Vec<u8> {
     row.extend(form.words[..8].iter().flat_map(|w| w.to_le_bytes()));
     row.extend(effect.words[..7].iter().map(|&w| u8::from(w == 1)));
     row.push(u8::try_from(why.words[0]).expect("a small number"));
-    row.extend(settings);
     row
 }
 
@@ -228,7 +167,7 @@ pub fn records() -> Vec<u8> {
     let mut rng = Rng::new(SEED);
     let mut chosen: Vec<Input> = shortest().collect();
     while chosen.len() < RECORDS {
-        let inputs = batch(&mut rng, |rng| grid.random(rng));
+        let inputs = batch(&grid, &mut rng);
         chosen.extend(inputs.iter().find(|input| ends(input)).cloned());
         for _ in 0..RECORDS / 40 {
             let input = rng.pick(&inputs);

@@ -4,7 +4,7 @@
 //! plainly.
 
 use plain::state::{DEPTH, INPUTS, NODES, ROW, SLOTS, STATE, STATEMENTS, TEMPORARIES};
-use plain::{DECLINED, Instruction, Settings};
+use plain::{DECLINED, Instruction};
 use recorder::Lifter;
 use recording_ir::expr::Expr;
 use recording_ir::{Row, recorded};
@@ -25,17 +25,16 @@ pub struct Step {
 /// The kind of a statement that says 'unsupported'.
 const UNSUPPORTED: u64 = 6;
 
-/// Lift an instruction that is not refused in these settings, from a valid
-/// state.
+/// Lift an instruction that is not refused, from a valid state.
 #[must_use]
-pub fn step(settings: Settings, state: &[u64; STATE], insn: &Instruction) -> Step {
+pub fn step(state: &[u64; STATE], insn: &Instruction) -> Step {
     let mut lifter = lifter(state);
-    let as_spelt = spelt(settings, insn);
+    let as_spelt = spelt(insn);
     let ((), nodes) = recorded(small(state[NODES]), || lifter.lift(&as_spelt));
     let mut statements: Vec<Row> = lifter.statements().iter().map(|s| s.words()).collect();
     let answer = answer(&statements);
     let detail = if answer == DECLINED {
-        plain::why(settings, insn)
+        plain::why(insn)
     } else {
         0
     };

@@ -4,8 +4,8 @@
 use std::fs;
 use std::path::PathBuf;
 
+use plain::FLAT;
 use plain::state::{NODES, ROW as ROW_WORDS, STATE, STATEMENTS};
-use plain::{FLAT, Instruction, SETTINGS, Settings};
 use sleetgate_sys::DETAIL;
 
 use crate::report::{Report, hex};
@@ -42,32 +42,23 @@ pub fn instructions(subject: &impl Subject, stored: &[u8]) -> Report {
     let mut report = Report::default();
     assert_eq!(stored.len() % ROW, 0, "whole rows");
     for row in stored.chunks(ROW) {
-        let (flat, set) = (&row[..FLAT], &row[ROW - SETTINGS..]);
+        let flat = &row[..FLAT];
         let (mut form, mut effect) = ([UNWRITTEN; 8], [UNWRITTEN; 7]);
         let mut detail = [UNWRITTEN; DETAIL];
-        let number = subject.classify(set, flat, &mut form);
-        let same = subject.effect(set, flat, &mut effect) == number
-            && subject.why(set, flat, &mut detail) == number;
+        let number = subject.classify(flat, &mut form);
+        let same =
+            subject.effect(flat, &mut effect) == number && subject.why(flat, &mut detail) == number;
         let mut got = flat.to_vec();
         got.push(byte(number));
         got.extend(form.iter().flat_map(|w| w.to_le_bytes()));
         got.extend(effect.into_iter().chain(detail).map(byte));
-        got.extend(set);
         report.count(row[FLAT].into());
-        report.count_detail(row[ROW - SETTINGS - 1].into());
-        count_dialect(&mut report, set, flat);
+        report.count_detail(row[ROW - 1].into());
         if got != row || !same {
             report.differs(|| format!("stored {}\ngot    {}", hex(row), hex(&got)));
         }
     }
     report
-}
-
-/// Count the instruction in these bytes, read in the settings in those.
-fn count_dialect(report: &mut Report, settings: &[u8], flat: &[u8]) {
-    let settings = Settings::from_bytes(settings).expect("a row has them");
-    let flat = flat.first_chunk().expect("a row has one");
-    report.count_dialect(settings, &Instruction::from_flat(flat));
 }
 
 /// Compare the reader with the rows of `records.bin`.
@@ -107,8 +98,7 @@ mod lift_row {
     pub const ANSWER: usize = 233;
     pub const COUNTS: usize = 286;
     pub const DETAIL: usize = 288;
-    pub const SETTINGS: usize = 289;
-    pub const ROWS: usize = SETTINGS + plain::SETTINGS;
+    pub const ROWS: usize = 289;
 }
 
 /// Compare the lifter with the rows of `lifts.bin`.
@@ -121,8 +111,6 @@ pub fn lifts(subject: &impl Subject, mut stored: &[u8]) -> Report {
         stored = rest;
         report.count(row[lift_row::ANSWER].into());
         report.count_detail(row[lift_row::DETAIL].into());
-        let flat = &row[lift_row::INSTRUCTION..lift_row::ANSWER];
-        count_dialect(&mut report, &row[lift_row::SETTINGS..], flat);
         let got = lift_answer(subject, row);
         if got != row[lift_row::ANSWER..] {
             report.differs(|| format!("stored {}\ngot {}", hex(row), hex(&got)));
@@ -138,11 +126,9 @@ fn lift_answer(subject: &impl Subject, row: &[u8]) -> Vec<u8> {
     let mut statements = vec![u64::MAX; rooms[1] * ROW_WORDS];
     let before: [u64; STATE] = state_at(row);
     let mut state = before;
-    let settings = &row[lift_row::SETTINGS..lift_row::ROWS];
     let flat = &row[lift_row::INSTRUCTION..lift_row::ANSWER];
     let mut detail = [UNWRITTEN; DETAIL];
-    let lists = (&mut nodes, &mut statements);
-    let number = subject.lift(settings, flat, &mut state, lists.0, lists.1, &mut detail);
+    let number = subject.lift(flat, &mut state, &mut nodes, &mut statements, &mut detail);
     let mut got = vec![byte(number)];
     got.extend(state.iter().flat_map(|w| w.to_le_bytes()[..4].to_vec()));
     let added = |at: usize, list: &[u64]| written(list, before[at], state[at]);
@@ -151,7 +137,6 @@ fn lift_answer(subject: &impl Subject, row: &[u8]) -> Vec<u8> {
         got.push(byte(list.len() / ROW_WORDS));
     }
     got.extend(detail.map(byte));
-    got.extend(settings);
     got.extend(
         nodes
             .iter()

@@ -5,16 +5,14 @@ use plain::state::{ROW, room};
 use plain::{MODELLED, NO_NODES, NO_TEXT, TOO_SHORT};
 use sleetgate_sys::untested;
 
-/// The calls that read and lift. Settings are the bytes that are lent for
-/// them.
+/// The calls that read and lift.
 pub trait Subject {
-    fn classify(&self, settings: &[u8], flat: &[u8], out: &mut [u64]) -> u32;
-    fn why(&self, settings: &[u8], flat: &[u8], out: &mut [u64]) -> u32;
-    fn effect(&self, settings: &[u8], flat: &[u8], out: &mut [u64]) -> u32;
+    fn classify(&self, flat: &[u8], out: &mut [u64]) -> u32;
+    fn why(&self, flat: &[u8], out: &mut [u64]) -> u32;
+    fn effect(&self, flat: &[u8], out: &mut [u64]) -> u32;
     fn read_record(&self, input: &[u8], at: usize, flat: &mut [u8], out: &mut [u64]) -> u32;
     fn lift(
         &self,
-        settings: &[u8],
         flat: &[u8],
         state: &mut [u64],
         nodes: &mut [u64],
@@ -25,10 +23,8 @@ pub trait Subject {
 
 /// The call that reads and lifts at once.
 pub trait RecordLifter: Subject {
-    #[allow(clippy::too_many_arguments)]
     fn lift_record(
         &self,
-        settings: &[u8],
         input: &[u8],
         at: usize,
         state: &mut [u64],
@@ -74,16 +70,16 @@ pub trait Texts {
 pub struct Library;
 
 impl Subject for Library {
-    fn classify(&self, settings: &[u8], flat: &[u8], out: &mut [u64]) -> u32 {
-        untested::classify(settings, flat, out)
+    fn classify(&self, flat: &[u8], out: &mut [u64]) -> u32 {
+        untested::classify(flat, out)
     }
 
-    fn why(&self, settings: &[u8], flat: &[u8], out: &mut [u64]) -> u32 {
-        untested::why(settings, flat, out)
+    fn why(&self, flat: &[u8], out: &mut [u64]) -> u32 {
+        untested::why(flat, out)
     }
 
-    fn effect(&self, settings: &[u8], flat: &[u8], out: &mut [u64]) -> u32 {
-        untested::effect(settings, flat, out)
+    fn effect(&self, flat: &[u8], out: &mut [u64]) -> u32 {
+        untested::effect(flat, out)
     }
 
     fn read_record(&self, input: &[u8], at: usize, flat: &mut [u8], out: &mut [u64]) -> u32 {
@@ -92,21 +88,19 @@ impl Subject for Library {
 
     fn lift(
         &self,
-        settings: &[u8],
         flat: &[u8],
         state: &mut [u64],
         nodes: &mut [u64],
         statements: &mut [u64],
         out: &mut [u64],
     ) -> u32 {
-        untested::lift(settings, flat, state, nodes, statements, out)
+        untested::lift(flat, state, nodes, statements, out)
     }
 }
 
 impl RecordLifter for Library {
     fn lift_record(
         &self,
-        settings: &[u8],
         input: &[u8],
         at: usize,
         state: &mut [u64],
@@ -114,7 +108,7 @@ impl RecordLifter for Library {
         statements: &mut [u64],
         out: &mut [u64],
     ) -> u32 {
-        untested::lift_record(settings, input, at, state, nodes, statements, out)
+        untested::lift_record(input, at, state, nodes, statements, out)
     }
 }
 

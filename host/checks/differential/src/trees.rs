@@ -6,8 +6,8 @@
 //! four rows. Trees are followed up to a bound; beyond it they are left
 //! out until the stack is next cleared.
 
+use plain::Instruction;
 use plain::state::{DEPTH, INPUTS, NODES, STATE, STATEMENTS, TEMPORARIES};
-use plain::{Instruction, Settings};
 use r2smt_ir::expr::{Expr, RoundingMode, Var};
 use r2smt_ir::memory;
 use r2smt_ir::stmt::IrStmt;
@@ -52,7 +52,6 @@ impl Follower {
     /// Where a tree differs, with what it is.
     pub fn follow(
         &mut self,
-        settings: Settings,
         insn: &Instruction,
         before: &[u64; STATE],
         after: &[u64; STATE],
@@ -70,11 +69,11 @@ impl Follower {
             return Ok(());
         };
         self.followed += 1;
-        lifter.lift(&spelt(settings, insn));
+        lifter.lift(&spelt(insn));
         let changed = |i: usize| i as u64 >= before[DEPTH] || before[i] != after[i];
         same_slots(lifter, after, lists.0, changed)?;
         let from = before[STATEMENTS] - self.first_statement;
-        let detail = plain::why(settings, insn).into();
+        let detail = plain::why(insn).into();
         same_statements(lifter, from, before[STATEMENTS], lists, detail)
     }
 

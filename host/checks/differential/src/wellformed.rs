@@ -296,11 +296,7 @@ mod tests {
             };
             let lean = [Push, Keep, Pop][round % 3];
             let insn = random(&mut rng, style, lean, round % 9);
-            let settings = plain::Settings::default();
-            assert!(
-                crate::oracle::classify(settings, &insn).is_some(),
-                "{insn:?}"
-            );
+            assert!(crate::oracle::classify(&insn).is_some(), "{insn:?}");
         }
     }
 }

@@ -7,7 +7,7 @@
 use std::hint::black_box;
 
 use plain::state::{DEPTH, ROW, STATE};
-use plain::{FLAT, Instruction, MODELLED, SETTINGS, Settings};
+use plain::{FLAT, Instruction, MODELLED};
 use sleetgate_sys::{DETAIL, STEP};
 
 use crate::instructions::Grid;
@@ -45,9 +45,6 @@ const LONG: usize = 48;
 /// The rows that a list can have.
 pub const ROWS: usize = 65_535;
 
-/// The settings of every call.
-pub const LENT: [u8; SETTINGS] = [0; SETTINGS];
-
 /// So many sequences of the work with this number in [`WORKS`].
 #[must_use]
 pub fn sequences(work: usize, count: usize) -> Vec<Vec<Instruction>> {
@@ -73,10 +70,10 @@ fn family(rng: &mut Rng, form: u64) -> Vec<Instruction> {
     while sequence.len() < SHORT {
         let name = rng.pick(&NAMES);
         let insn = wellformed::of_name(rng, style, name, 4);
-        if classify(Settings::default(), &insn).is_none_or(|words| words[0] != form) {
+        if classify(&insn).is_none_or(|words| words[0] != form) {
             continue;
         }
-        let next = step(Settings::default(), &state, &insn);
+        let next = step(&state, &insn);
         if next.answer != MODELLED {
             break;
         }
@@ -104,12 +101,11 @@ fn modelled(rng: &mut Rng, length: usize) -> Option<Vec<Instruction>> {
     let (mut nodes, mut statements) = (Vec::new(), Vec::new());
     for _ in 0..profile.length {
         let insn = profile.next(&grid, rng, depth(&state));
-        let next = step(Settings::default(), &state, &insn);
+        let next = step(&state, &insn);
         nodes.extend(words(&next.nodes));
         statements.extend(words(&next.statements));
         let lists = (nodes.as_slice(), statements.as_slice());
-        let followed = follower.follow(Settings::default(), &insn, &state, &next.state, lists);
-        followed.ok()?;
+        follower.follow(&insn, &state, &next.state, lists).ok()?;
         if next.answer != MODELLED || follower.left_out > 0 {
             return None;
         }
@@ -147,15 +143,14 @@ impl Lists {
     /// Lift one instruction.
     pub fn lift(&mut self, flat: &[u8; FLAT], state: &mut [u64; STATE]) -> u32 {
         let (nodes, statements) = (&mut self.nodes, &mut self.statements);
-        sleetgate_sys::lift(&LENT, flat, state, nodes, statements, &mut [0; DETAIL])
+        sleetgate_sys::lift(flat, state, nodes, statements, &mut [0; DETAIL])
     }
 
     /// Lift the record at a place, and give the next place.
     fn lift_record(&mut self, input: &[u8], at: usize, state: &mut [u64; STATE]) -> usize {
         let (nodes, statements) = (&mut self.nodes, &mut self.statements);
         let mut told = [0; STEP];
-        let lift = sleetgate_sys::lift_record;
-        let answer = lift(&LENT, input, at, state, nodes, statements, &mut told);
+        let answer = sleetgate_sys::lift_record(input, at, state, nodes, statements, &mut told);
         assert_eq!((answer, told[1]), (MODELLED, 1));
         usize::try_from(told[0]).expect("a place")
     }
@@ -208,7 +203,7 @@ mod tests {
                     _ => assert!((1..=SHORT).contains(&sequence.len()), "{name}"),
                 }
                 for insn in sequence {
-                    let form = classify(Settings::default(), &insn).expect("modelled")[0];
+                    let form = classify(&insn).expect("modelled")[0];
                     assert!(
                         name.starts_with("mixed") || form == 1 + work as u64,
                         "{name}"

@@ -13,7 +13,7 @@ use differential::subject::Subject;
 use differential::trees::Follower;
 use differential::{classify, lift, records};
 use plain::state::{DEPTH, INPUTS, NODES, SLOTS, STATE, STATEMENTS};
-use plain::{BAD_TEXT, DECLINED, FLAT, Instruction, OVERFLOWED, Operand, Settings, Text};
+use plain::{BAD_TEXT, DECLINED, FLAT, Instruction, OVERFLOWED, Operand, Text};
 
 use echo::{Echo, Mislift, shown};
 
@@ -28,16 +28,16 @@ impl Exactly {
 }
 
 impl Subject for Exactly {
-    fn classify(&self, settings: &[u8], flat: &[u8], out: &mut [u64]) -> u32 {
-        self.0.classify(settings, self.taken(flat), out)
+    fn classify(&self, flat: &[u8], out: &mut [u64]) -> u32 {
+        self.0.classify(self.taken(flat), out)
     }
 
-    fn why(&self, settings: &[u8], flat: &[u8], out: &mut [u64]) -> u32 {
-        self.0.why(settings, self.taken(flat), out)
+    fn why(&self, flat: &[u8], out: &mut [u64]) -> u32 {
+        self.0.why(self.taken(flat), out)
     }
 
-    fn effect(&self, settings: &[u8], flat: &[u8], out: &mut [u64]) -> u32 {
-        self.0.effect(settings, self.taken(flat), out)
+    fn effect(&self, flat: &[u8], out: &mut [u64]) -> u32 {
+        self.0.effect(self.taken(flat), out)
     }
 
     fn read_record(&self, input: &[u8], at: usize, flat: &mut [u8], out: &mut [u64]) -> u32 {
@@ -46,7 +46,6 @@ impl Subject for Exactly {
 
     fn lift(
         &self,
-        settings: &[u8],
         flat: &[u8],
         state: &mut [u64],
         nodes: &mut [u64],
@@ -54,7 +53,7 @@ impl Subject for Exactly {
         out: &mut [u64],
     ) -> u32 {
         let flat = self.taken(flat);
-        self.0.lift(settings, flat, state, nodes, statements, out)
+        self.0.lift(flat, state, nodes, statements, out)
     }
 }
 
@@ -105,7 +104,7 @@ fn a_place_rule_that_takes_8_is_reported() {
 #[test]
 fn a_family_that_forgets_its_operand_count_is_reported() {
     let misread = |insn: &mut Instruction| {
-        if insn.mnemonic.used() == b"fabs" && plain::refusal(Settings::default(), insn).is_none() {
+        if insn.mnemonic.used() == b"fabs" && plain::refusal(insn).is_none() {
             insn.count = 0;
         }
     };
@@ -155,7 +154,7 @@ fn words_that_are_not_told_beside_a_refusal_are_reported() {
         miswrite: Some(miswrite),
         ..Echo::default()
     };
-    shown(&compared(&subject), "expected Answer { number: a,");
+    shown(&compared(&subject), "no instruction");
     shown(&records::run(&subject, 30_000, 3), "read_record at ");
 }
 
@@ -228,7 +227,7 @@ fn a_lifter_that_declines_everything_is_reported() {
     lifted(|before, insn, step| {
         let mut never = *insn;
         never.mnemonic = Text::new(b"never");
-        *step = crate::step(Settings::default(), before, &never);
+        *step = crate::step(before, &never);
     });
 }
 
@@ -305,13 +304,9 @@ fn lists(step: &Step) -> [Vec<u64>; 2] {
 #[test]
 fn a_changed_word_of_any_row_is_another_tree() {
     for insn in TELLING.map(telling) {
-        let step = step(Settings::default(), &[0; STATE], &insn);
+        let step = step(&[0; STATE], &insn);
         let follow = |[nodes, statements]: &[Vec<u64>; 2]| {
-            let (settings, lists) = (
-                Settings::default(),
-                (nodes.as_slice(), statements.as_slice()),
-            );
-            Follower::default().follow(settings, &insn, &[0; STATE], &step.state, lists)
+            Follower::default().follow(&insn, &[0; STATE], &step.state, (nodes, statements))
         };
         let right = lists(&step);
         assert_eq!((step.answer, follow(&right)), (0, Ok(())));
@@ -330,16 +325,16 @@ fn a_changed_word_of_any_row_is_another_tree() {
 struct Scribbler(usize);
 
 impl Subject for Scribbler {
-    fn classify(&self, settings: &[u8], flat: &[u8], out: &mut [u64]) -> u32 {
-        Echo::default().classify(settings, flat, out)
+    fn classify(&self, flat: &[u8], out: &mut [u64]) -> u32 {
+        Echo::default().classify(flat, out)
     }
 
-    fn why(&self, settings: &[u8], flat: &[u8], out: &mut [u64]) -> u32 {
-        Echo::default().why(settings, flat, out)
+    fn why(&self, flat: &[u8], out: &mut [u64]) -> u32 {
+        Echo::default().why(flat, out)
     }
 
-    fn effect(&self, settings: &[u8], flat: &[u8], out: &mut [u64]) -> u32 {
-        Echo::default().effect(settings, flat, out)
+    fn effect(&self, flat: &[u8], out: &mut [u64]) -> u32 {
+        Echo::default().effect(flat, out)
     }
 
     fn read_record(&self, input: &[u8], at: usize, flat: &mut [u8], out: &mut [u64]) -> u32 {
@@ -348,14 +343,13 @@ impl Subject for Scribbler {
 
     fn lift(
         &self,
-        settings: &[u8],
         flat: &[u8],
         state: &mut [u64],
         nodes: &mut [u64],
         statements: &mut [u64],
         out: &mut [u64],
     ) -> u32 {
-        let number = Echo::default().lift(settings, flat, state, nodes, statements, out);
+        let number = Echo::default().lift(flat, state, nodes, statements, out);
         if let Some(word) = nodes.get_mut(self.0) {
             *word ^= 1;
         }

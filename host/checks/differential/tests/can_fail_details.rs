@@ -13,7 +13,7 @@ use differential::subject::Subject;
 use differential::trees::Follower;
 use differential::{classify, lift, stored};
 use plain::state::{ROW, STATE, STATEMENTS};
-use plain::{DECLINED, Instruction, MEMORY, MODELLED, OTHER, OVERFLOWED, Operand, Settings};
+use plain::{DECLINED, Instruction, MEMORY, MODELLED, OTHER, OVERFLOWED, Operand};
 
 use echo::{Echo, shown};
 
@@ -40,18 +40,18 @@ impl Faulty {
 }
 
 impl Subject for Faulty {
-    fn classify(&self, settings: &[u8], flat: &[u8], out: &mut [u64]) -> u32 {
-        Echo::default().classify(settings, flat, out)
+    fn classify(&self, flat: &[u8], out: &mut [u64]) -> u32 {
+        Echo::default().classify(flat, out)
     }
 
-    fn why(&self, settings: &[u8], flat: &[u8], out: &mut [u64]) -> u32 {
-        let number = Echo::default().why(settings, flat, out);
+    fn why(&self, flat: &[u8], out: &mut [u64]) -> u32 {
+        let number = Echo::default().why(flat, out);
         self.put(flat, number, out.first_mut().filter(|_| self.told));
         number
     }
 
-    fn effect(&self, settings: &[u8], flat: &[u8], out: &mut [u64]) -> u32 {
-        Echo::default().effect(settings, flat, out)
+    fn effect(&self, flat: &[u8], out: &mut [u64]) -> u32 {
+        Echo::default().effect(flat, out)
     }
 
     fn read_record(&self, input: &[u8], at: usize, flat: &mut [u8], out: &mut [u64]) -> u32 {
@@ -60,14 +60,13 @@ impl Subject for Faulty {
 
     fn lift(
         &self,
-        settings: &[u8],
         flat: &[u8],
         state: &mut [u64],
         nodes: &mut [u64],
         statements: &mut [u64],
         out: &mut [u64],
     ) -> u32 {
-        let number = Echo::default().lift(settings, flat, state, nodes, statements, out);
+        let number = Echo::default().lift(flat, state, nodes, statements, out);
         self.put(flat, number, out.first_mut().filter(|_| self.told));
         if let (DECLINED | OVERFLOWED, true) = (number, self.written) {
             let rows = usize::try_from(state[STATEMENTS]).expect("in memory");
@@ -132,7 +131,7 @@ fn with_known_addresses(insn: &Instruction) -> u32 {
     for operand in &mut insn.operands {
         operand.known = 1;
     }
-    plain::why(Settings::default(), &insn)
+    plain::why(&insn)
 }
 
 #[test]
@@ -182,7 +181,7 @@ fn a_detail_for_another_is_reported() {
         let mut top = *insn;
         top.operands[0] = Operand::register(b"st(0)");
         match detail {
-            23 if begins(insn, b"fcmov") && plain::why(Settings::default(), &top) == 0 => 25,
+            23 if begins(insn, b"fcmov") && plain::why(&top) == 0 => 25,
             _ => detail,
         }
     });
@@ -226,20 +225,20 @@ struct Careless {
 }
 
 impl Subject for Careless {
-    fn classify(&self, settings: &[u8], flat: &[u8], out: &mut [u64]) -> u32 {
-        Echo::default().classify(settings, flat, out)
+    fn classify(&self, flat: &[u8], out: &mut [u64]) -> u32 {
+        Echo::default().classify(flat, out)
     }
 
-    fn why(&self, settings: &[u8], flat: &[u8], out: &mut [u64]) -> u32 {
-        let number = Echo::default().why(settings, flat, out);
+    fn why(&self, flat: &[u8], out: &mut [u64]) -> u32 {
+        let number = Echo::default().why(flat, out);
         if let (true, Some(word)) = (self.beyond, out.get_mut(1)) {
             *word = 0;
         }
         number
     }
 
-    fn effect(&self, settings: &[u8], flat: &[u8], out: &mut [u64]) -> u32 {
-        Echo::default().effect(settings, flat, out)
+    fn effect(&self, flat: &[u8], out: &mut [u64]) -> u32 {
+        Echo::default().effect(flat, out)
     }
 
     fn read_record(&self, input: &[u8], at: usize, flat: &mut [u8], out: &mut [u64]) -> u32 {
@@ -248,7 +247,6 @@ impl Subject for Careless {
 
     fn lift(
         &self,
-        settings: &[u8],
         flat: &[u8],
         state: &mut [u64],
         nodes: &mut [u64],
@@ -261,7 +259,7 @@ impl Subject for Careless {
         } else {
             out
         };
-        let number = Echo::default().lift(settings, flat, state, nodes, statements, told);
+        let number = Echo::default().lift(flat, state, nodes, statements, told);
         if let (true, Some(word)) = (self.beyond, told.get_mut(1)) {
             *word = 0;
         }
@@ -291,12 +289,11 @@ fn a_word_written_beyond_the_detail_is_reported() {
 #[test]
 fn a_changed_word_of_a_decline_is_another_statement() {
     let insn = Instruction::new(9, b"fprem", &[]);
-    let settings = Settings::default();
-    let step = step(settings, &[0; STATE], &insn);
+    let step = step(&[0; STATE], &insn);
     let right = words(&step.statements);
     assert_eq!(right, [6, 1, 9, 21]);
     let follow = |statements: &[u64]| {
-        Follower::default().follow(settings, &insn, &[0; STATE], &step.state, (&[], statements))
+        Follower::default().follow(&insn, &[0; STATE], &step.state, (&[], statements))
     };
     assert_eq!(follow(&right), Ok(()));
     for at in 0..right.len() {

@@ -10,7 +10,6 @@ use differential::subject::{Formulas, Images, Library, RecordLifter, Subject};
 use differential::{
     checks, fewer, images, left_out, record_lifts, stored, stored_formulas, values,
 };
-use plain::Settings;
 use plain::state::{ROW, STATE};
 use plain::values::{VALUE, takes_given, value};
 
@@ -389,39 +388,20 @@ fn a_wrong_reader_of_images_is_reported() {
 /// tells, with its answer and place.
 type Mistell = fn(u32, usize, &mut [u64], &mut [u64]);
 
-/// A change of the bytes that are lent for settings.
-type OfLent = fn(&[u8]) -> Vec<u8>;
-
-/// The library, but for a fault in the settings that the call on a record is
-/// lent, or in what it tells.
-struct FaultyRecords {
-    lent: OfLent,
-    /// Whether a dialect that is none is told before all but 10.
-    early: bool,
-    tell: Mistell,
-}
-
-impl Default for FaultyRecords {
-    fn default() -> Self {
-        Self {
-            lent: <[u8]>::to_vec,
-            early: false,
-            tell: |_, _, _, _| (),
-        }
-    }
-}
+/// The library, but for a fault in what the call on a record tells.
+struct FaultyRecords(Mistell);
 
 impl Subject for FaultyRecords {
-    fn classify(&self, settings: &[u8], flat: &[u8], out: &mut [u64]) -> u32 {
-        Library.classify(settings, flat, out)
+    fn classify(&self, flat: &[u8], out: &mut [u64]) -> u32 {
+        Library.classify(flat, out)
     }
 
-    fn why(&self, settings: &[u8], flat: &[u8], out: &mut [u64]) -> u32 {
-        Library.why(settings, flat, out)
+    fn why(&self, flat: &[u8], out: &mut [u64]) -> u32 {
+        Library.why(flat, out)
     }
 
-    fn effect(&self, settings: &[u8], flat: &[u8], out: &mut [u64]) -> u32 {
-        Library.effect(settings, flat, out)
+    fn effect(&self, flat: &[u8], out: &mut [u64]) -> u32 {
+        Library.effect(flat, out)
     }
 
     fn read_record(&self, input: &[u8], at: usize, flat: &mut [u8], out: &mut [u64]) -> u32 {
@@ -430,21 +410,19 @@ impl Subject for FaultyRecords {
 
     fn lift(
         &self,
-        settings: &[u8],
         flat: &[u8],
         state: &mut [u64],
         nodes: &mut [u64],
         statements: &mut [u64],
         out: &mut [u64],
     ) -> u32 {
-        Library.lift(settings, flat, state, nodes, statements, out)
+        Library.lift(flat, state, nodes, statements, out)
     }
 }
 
 impl RecordLifter for FaultyRecords {
     fn lift_record(
         &self,
-        settings: &[u8],
         input: &[u8],
         at: usize,
         state: &mut [u64],
@@ -452,59 +430,18 @@ impl RecordLifter for FaultyRecords {
         statements: &mut [u64],
         out: &mut [u64],
     ) -> u32 {
-        let settings = &(self.lent)(settings);
-        let refused = Settings::from_bytes(settings).and_then(Settings::refusal);
-        if let (true, true, Some(number)) = (self.early, state.len() >= STATE, refused)
-            && let Some(told) = out.first_chunk_mut()
-        {
-            *told = [at as u64, 0, 0];
-            return number;
-        }
-        let number = Library.lift_record(settings, input, at, state, nodes, statements, out);
-        (self.tell)(number, at, state, out);
+        let number = Library.lift_record(input, at, state, nodes, statements, out);
+        (self.0)(number, at, state, out);
         number
     }
 }
 
-/// A fault in the call on a record is reported.
-fn record_reported(subject: &FaultyRecords) {
-    let report = record_lifts::run(subject, fewer(20_000), 3);
-    shown(&report, "lift_record at ");
-}
-
-/// Each of these faults in what the call on a record tells is reported.
+/// Each of these faults in the call on a record is reported.
 fn records_reported(faults: &[Mistell]) {
-    for &tell in faults {
-        record_reported(&FaultyRecords {
-            tell,
-            ..FaultyRecords::default()
-        });
+    for &fault in faults {
+        let report = record_lifts::run(&FaultyRecords(fault), fewer(20_000), 3);
+        shown(&report, "lift_record at ");
     }
-}
-
-#[test]
-fn wrong_dialects_of_a_lifted_record_are_reported() {
-    let faults: [OfLent; 5] = [
-        // The dialect is always 0, or always 1.
-        |settings| vec![0; settings.len()],
-        |settings| vec![1; settings.len()],
-        // One that is none is 1.
-        |settings| settings.iter().map(|&dialect| dialect.min(1)).collect(),
-        // None is lent, and it is 0.
-        |settings| [settings, &[0]].concat(),
-        // A byte beyond is none to lend.
-        |settings| settings.get(1).map_or(settings.to_vec(), |_| Vec::new()),
-    ];
-    for lent in faults {
-        record_reported(&FaultyRecords {
-            lent,
-            ..FaultyRecords::default()
-        });
-    }
-    record_reported(&FaultyRecords {
-        early: true,
-        ..FaultyRecords::default()
-    });
 }
 
 #[test]
@@ -581,7 +518,7 @@ fn without_a_fault_nothing_differs() {
     let reports = [
         checks::run(&subject, fewer(20_000), 3),
         images::run(&subject, fewer(20_000), 3),
-        record_lifts::run(&FaultyRecords::default(), fewer(20_000), 3),
+        record_lifts::run(&FaultyRecords(|_, _, _, _| ()), fewer(20_000), 3),
     ];
     for report in reports {
         assert!(report.is_equal(), "{report}");

@@ -18,8 +18,8 @@ struct Faulty {
 }
 
 impl Lists for Faulty {
-    fn listing(&self, words: &[&str], input: &[u8]) -> io::Result<Vec<u8>> {
-        let expected = expect(words, &(self.input)(input));
+    fn listing(&self, input: &[u8]) -> io::Result<Vec<u8>> {
+        let expected = expect(&(self.input)(input));
         Ok((self.listing)(expected.text).into_bytes())
     }
 }
@@ -28,7 +28,7 @@ fn same_input(input: &[u8]) -> Vec<u8> {
     input.to_vec()
 }
 
-fn reported(faulty: &impl Lists) -> u64 {
+fn reported(faulty: &Faulty) -> u64 {
     let report = run(faulty, 500, 3).expect("nothing is run");
     assert_eq!(report.first.is_some(), report.differences > 0);
     report.differences
@@ -173,7 +173,6 @@ fn the_first_difference_has_a_small_input() {
     let report = run(&faulty, 500, 3).expect("nothing is run");
     let first = report.first.expect("there is a difference");
     // A record of `fldz`, without the end mark.
-    assert!(first.contains(", started with ["), "{first}");
     assert!(first.contains(", cut down to 16 bytes: 8749"), "{first}");
     assert!(first.contains("\nexpected n 0 6 0 0 79\n"), "{first}");
 }
@@ -192,76 +191,4 @@ fn a_lifter_that_keeps_the_stack_is_reported() {
         bytes
     };
     assert!(of_input(input) > 0);
-}
-
-/// The listing that a program makes of its words and its input.
-type OfWords = fn(&[&str], &[u8]) -> String;
-
-/// A program that is right but for what it makes of its words.
-struct Misled(OfWords);
-
-impl Lists for Misled {
-    fn listing(&self, words: &[&str], input: &[u8]) -> io::Result<Vec<u8>> {
-        Ok((self.0)(words, input).into_bytes())
-    }
-}
-
-/// The listing in a dialect.
-fn listed(dialect: &str, input: &[u8]) -> String {
-    expect(&["--dialect", dialect], input).text
-}
-
-/// Each of these faults in what is made of the words is reported.
-fn misled(faults: &[OfWords]) {
-    for (number, &fault) in faults.iter().enumerate() {
-        assert!(reported(&Misled(fault)) > 0, "fault {number}");
-    }
-}
-
-#[test]
-fn faults_in_the_words_are_reported() {
-    let right = Misled(|words, input| expect(words, input).text);
-    assert_eq!(reported(&right), 0);
-    misled(&[
-        // The words are not looked at.
-        |_, input| listed("0", input),
-        |_, input| listed("1", input),
-        // Without words it is dialect 1.
-        |words, input| match words {
-            [] => listed("1", input),
-            _ => expect(words, input).text,
-        },
-        // A word that is missing is 0.
-        |words, input| match words {
-            ["--dialect"] => listed("0", input),
-            _ => expect(words, input).text,
-        },
-        // A word is read as a number.
-        |words, input| match words {
-            ["--dialect", word] => {
-                let number: u8 = word.trim().parse().unwrap_or(2);
-                listed(&number.to_string(), input)
-            }
-            _ => expect(words, input).text,
-        },
-    ]);
-}
-
-#[test]
-fn dialects_that_are_none_and_told_late_are_reported() {
-    misled(&[
-        // A long input is refused first.
-        |words, input| match input.len() {
-            0..=16_384 => expect(words, input).text,
-            _ => listed("0", input),
-        },
-        // A dialect that is none is told behind what is lifted.
-        |words, input| {
-            let text = expect(words, input).text;
-            if text.ends_with("r 33 0\n") {
-                return listed("0", input) + "r 33 0\n";
-            }
-            text
-        },
-    ]);
 }

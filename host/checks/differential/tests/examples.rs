@@ -4,20 +4,12 @@
 
 use differential::steps::{Step, step};
 use plain::state::{DEPTH, INPUTS, NODES, STATE};
-use plain::{BARE, Instruction, Operand, Settings};
+use plain::{Instruction, Operand};
 
 const FRESH: [u64; STATE] = [0; STATE];
 
-fn lift_in(settings: Settings, state: &[u64; STATE], name: &str, operands: &[Operand]) -> Step {
-    step(
-        settings,
-        state,
-        &Instruction::new(16, name.as_bytes(), operands),
-    )
-}
-
 fn lift(state: &[u64; STATE], name: &str, operands: &[Operand]) -> Step {
-    lift_in(Settings::default(), state, name, operands)
+    step(state, &Instruction::new(16, name.as_bytes(), operands))
 }
 
 fn place(text: &str) -> Operand {
@@ -95,16 +87,4 @@ fn p12_fld_at_80() {
     assert_eq!((over.answer, over.nodes.len()), (2, 18));
     assert_eq!(over.statements, [[1, 8, 9, 80], [6, 2, 16, 0]]);
     assert_eq!((over.state[DEPTH], over.state[NODES]), (0, 26));
-}
-
-#[test]
-fn a_bare_st_is_the_top_in_its_dialect() {
-    let bare = [place("st")];
-    let declined = lift(&FRESH, "fld", &bare);
-    assert_eq!((declined.answer, declined.detail), (1, 23));
-    assert_eq!(declined.statements, [[6, 1, 16, 23]]);
-    let copied = lift_in(Settings::of(BARE), &FRESH, "fld", &bare);
-    let top = lift(&FRESH, "fld", &[place("st(0)")]);
-    assert_eq!((copied.answer, copied.state), (0, top.state));
-    assert_eq!(copied.nodes, top.nodes);
 }

@@ -9,28 +9,21 @@ use differential::{
     NO_ORACLE, checks, classify, fewer, images, left_out, lift, oracle, processor, record_lifts,
     records, values,
 };
-use plain::{Instruction, Operand, Settings};
-use sleetgate_sys::{SETTINGS, untested};
-
-/// Settings that are all zero.
-const ZERO: [u8; SETTINGS] = [0; SETTINGS];
+use plain::Instruction;
+use sleetgate_sys::untested;
 
 fn equal(report: &Report) {
     println!("{report}");
     assert!(report.is_equal(), "{report}");
 }
 
-/// Equal, each detail was expected often, and so was what a dialect decides.
+/// Equal, and each detail was expected often.
 fn equal_with_details(report: &Report) {
     equal(report);
     assert!(
         report.details.iter().all(|&count| count > fewer(30)),
         "{report}"
     );
-    assert!(report.expecting(33) > fewer(300), "{report}");
-    for dialect in [0, 1] {
-        assert!(report.decided.by(dialect) > fewer(300), "{report}");
-    }
 }
 
 #[test]
@@ -119,7 +112,7 @@ fn the_binding_of_formulas_tests_lengths_first() {
     assert_eq!(sleetgate_sys::evaluate(&[], 0, &[], &mut out, &mut []), 10);
     let (state, told) = out.split_at_mut(13);
     assert_eq!(
-        sleetgate_sys::lift_record(&ZERO, &[], 0, state, &mut [], &mut [], &mut told[..2]),
+        sleetgate_sys::lift_record(&[], 0, state, &mut [], &mut [], &mut told[..2]),
         10
     );
     assert_eq!((out, image), ([7; 16], [7; 10]));
@@ -141,56 +134,32 @@ fn the_binding_calls_the_library() {
     let number = sleetgate_sys::evaluate(&nodes, 2, &[0; 4], &mut column, &mut out);
     assert_eq!((number, out[0], column), (0, 0, [5, 0, 2, 0, 7]));
     let mut state = [0; 13];
-    let end = [0x87, 0x45];
-    let number = sleetgate_sys::lift_record(&ZERO, &end, 0, &mut state, &mut [], &mut [], &mut out);
+    let number =
+        sleetgate_sys::lift_record(&[0x87, 0x45], 0, &mut state, &mut [], &mut [], &mut out);
     assert_eq!(
         (number, &out[..3], state),
         (0, [2, 0, 0].as_slice(), [0; 13])
     );
     let fprem = Instruction::new(9, b"fprem", &[]).to_flat();
-    let number = sleetgate_sys::why(&ZERO, &fprem, &mut out);
-    assert_eq!((number, out[0]), (1, 21));
-    let (mut statements, mut told) = ([7; 4], [7; 2]);
-    let lists: (&mut [u64], _) = (&mut [], &mut statements);
-    let number = sleetgate_sys::lift(&ZERO, &fprem, &mut state, lists.0, lists.1, &mut told);
-    assert_eq!((number, statements, told), (1, [6, 1, 9, 21], [21, 7]));
-}
-
-/// The answer of each call that reads an instruction, in this dialect.
-fn answers(dialect: u8, insn: &Instruction) -> [u32; 5] {
-    let (set, flat) = (Settings::of(dialect).to_bytes(), insn.to_flat());
-    let (input, mut out, state) = (plain::record(insn), [0; 8], &mut [0; 13]);
-    let lists = (&mut [0; 400], &mut [0; 40]);
-    [
-        sleetgate_sys::classify(&set, &flat, &mut out),
-        sleetgate_sys::why(&set, &flat, &mut out),
-        sleetgate_sys::effect(&set, &flat, &mut out),
-        sleetgate_sys::lift(&set, &flat, state, lists.0, lists.1, &mut out),
-        sleetgate_sys::lift_record(&set, &input, 0, state, lists.0, lists.1, &mut out),
-    ]
-}
-
-#[test]
-fn each_call_reads_in_the_dialect_that_it_is_lent() {
-    assert!(sleetgate_sys::at_hand(), "{}", sleetgate_sys::MISSING);
-    let bare = Instruction::new(9, b"fst", &[Operand::register(b"st")]);
-    let answers = [0, 1, 2].map(|dialect| answers(dialect, &bare));
-    assert_eq!(answers, [[1; 5], [0; 5], [33; 5]]);
+    assert_eq!((sleetgate_sys::why(&fprem, &mut out), out[0]), (1, 21));
+    let (mut statements, mut detail) = ([7; 4], [7; 2]);
+    let number = sleetgate_sys::lift(&fprem, &mut state, &mut [], &mut statements, &mut detail);
+    assert_eq!((number, statements, detail), (1, [6, 1, 9, 21], [21, 7]));
 }
 
 #[test]
 fn the_binding_tests_lengths_first() {
     let mut out = [7; 16];
-    assert_eq!(sleetgate_sys::classify(&ZERO, &[0; 177], &mut out[..7]), 10);
-    assert_eq!(sleetgate_sys::why(&ZERO, &[0; 177], &mut []), 10);
-    assert_eq!(sleetgate_sys::effect(&ZERO, &[0; 177], &mut out[..6]), 10);
+    assert_eq!(sleetgate_sys::classify(&[0; 177], &mut out[..7]), 10);
+    assert_eq!(sleetgate_sys::why(&[0; 177], &mut []), 10);
+    assert_eq!(sleetgate_sys::effect(&[0; 177], &mut out[..6]), 10);
     let mut flat = [7; 177];
     assert_eq!(
         sleetgate_sys::read_record(&[], 0, &mut flat, &mut out[..1]),
         10
     );
     let mut lift = |flat: &[u8], words: usize, told: &mut [u64]| {
-        sleetgate_sys::lift(&ZERO, flat, &mut out[..words], &mut [], &mut [], told)
+        sleetgate_sys::lift(flat, &mut out[..words], &mut [], &mut [], told)
     };
     let mut told = [7; 3];
     assert_eq!(lift(&flat, 16, &mut []), 10);
@@ -204,47 +173,26 @@ type Call = fn(&mut [u64]) -> u32;
 
 /// How many words each call tells, and the call with another slice too
 /// short, by the binding and by the library.
-const TOO_SHORT: [(usize, [Call; 2]); 13] = [
+const TOO_SHORT: [(usize, [Call; 2]); 8] = [
     (
         8,
         [
-            |out| sleetgate_sys::classify(&ZERO, &[0; 176], out),
-            |out| untested::classify(&ZERO, &[0; 176], out),
-        ],
-    ),
-    (
-        8,
-        [
-            |out| sleetgate_sys::classify(&ZERO[1..], &[0; 177], out),
-            |out| untested::classify(&ZERO[1..], &[0; 177], out),
+            |out| sleetgate_sys::classify(&[0; 176], out),
+            |out| untested::classify(&[0; 176], out),
         ],
     ),
     (
         1,
         [
-            |out| sleetgate_sys::why(&ZERO, &[0; 176], out),
-            |out| untested::why(&ZERO, &[0; 176], out),
-        ],
-    ),
-    (
-        1,
-        [
-            |out| sleetgate_sys::why(&ZERO[1..], &[0; 177], out),
-            |out| untested::why(&ZERO[1..], &[0; 177], out),
+            |out| sleetgate_sys::why(&[0; 176], out),
+            |out| untested::why(&[0; 176], out),
         ],
     ),
     (
         7,
         [
-            |out| sleetgate_sys::effect(&ZERO, &[0; 176], out),
-            |out| untested::effect(&ZERO, &[0; 176], out),
-        ],
-    ),
-    (
-        7,
-        [
-            |out| sleetgate_sys::effect(&ZERO[1..], &[0; 177], out),
-            |out| untested::effect(&ZERO[1..], &[0; 177], out),
+            |out| sleetgate_sys::effect(&[0; 176], out),
+            |out| untested::effect(&[0; 176], out),
         ],
     ),
     (
@@ -257,38 +205,22 @@ const TOO_SHORT: [(usize, [Call; 2]); 13] = [
     (
         1,
         [
-            |out| sleetgate_sys::lift(&ZERO, &[0; 176], &mut [0; 13], &mut [], &mut [], out),
-            |out| untested::lift(&ZERO, &[0; 176], &mut [0; 13], &mut [], &mut [], out),
+            |out| sleetgate_sys::lift(&[0; 176], &mut [0; 13], &mut [], &mut [], out),
+            |out| untested::lift(&[0; 176], &mut [0; 13], &mut [], &mut [], out),
         ],
     ),
     (
         1,
         [
-            |out| sleetgate_sys::lift(&ZERO, &[0; 177], &mut [0; 12], &mut [], &mut [], out),
-            |out| untested::lift(&ZERO, &[0; 177], &mut [0; 12], &mut [], &mut [], out),
-        ],
-    ),
-    (
-        1,
-        [
-            |out| sleetgate_sys::lift(&ZERO[1..], &[0; 177], &mut [0; 13], &mut [], &mut [], out),
-            |out| untested::lift(&ZERO[1..], &[0; 177], &mut [0; 13], &mut [], &mut [], out),
+            |out| sleetgate_sys::lift(&[0; 177], &mut [0; 12], &mut [], &mut [], out),
+            |out| untested::lift(&[0; 177], &mut [0; 12], &mut [], &mut [], out),
         ],
     ),
     (
         3,
         [
-            |out| sleetgate_sys::lift_record(&ZERO, &[], 0, &mut [0; 12], &mut [], &mut [], out),
-            |out| untested::lift_record(&ZERO, &[], 0, &mut [0; 12], &mut [], &mut [], out),
-        ],
-    ),
-    (
-        3,
-        [
-            |out| {
-                sleetgate_sys::lift_record(&ZERO[1..], &[], 0, &mut [0; 13], &mut [], &mut [], out)
-            },
-            |out| untested::lift_record(&ZERO[1..], &[], 0, &mut [0; 13], &mut [], &mut [], out),
+            |out| sleetgate_sys::lift_record(&[], 0, &mut [0; 12], &mut [], &mut [], out),
+            |out| untested::lift_record(&[], 0, &mut [0; 12], &mut [], &mut [], out),
         ],
     ),
     (

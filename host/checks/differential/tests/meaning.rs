@@ -16,7 +16,7 @@ use differential::instructions::Grid;
 use differential::rng::Rng;
 use differential::sequences::Profile;
 use plain::state::{DEPTH, INPUTS, NODES, ROW, STATE, STATEMENTS, TEMPORARIES};
-use sleetgate::{Nodes, Settings, Statement, Statements};
+use sleetgate::{Nodes, Statement, Statements};
 use x87show::show;
 
 use floats::{decoded, same};
@@ -52,8 +52,7 @@ impl Lifted {
             let flat = profile.next(grid, rng, depth).to_flat();
             let lists = (&mut lift.nodes, &mut lift.statements);
             let detail = &mut [0; sleetgate_sys::DETAIL];
-            let settings = [0; sleetgate_sys::SETTINGS];
-            sleetgate_sys::lift(&settings, &flat, &mut lift.state, lists.0, lists.1, detail);
+            sleetgate_sys::lift(&flat, &mut lift.state, lists.0, lists.1, detail);
         }
         lift
     }
@@ -133,7 +132,7 @@ fn different(change: fn(String) -> String) -> usize {
     for _ in 0..600 {
         let lifted = Lifted::random(&grid, &mut rng);
         let listing = lifted.listing();
-        let shown = show(Settings::default(), &listing, None).expect("it is a listing");
+        let shown = show(&listing, None).expect("it is a listing");
         let shown = change(shown.text);
         if let Some(why) = lifted.difference(&shown, &mut rng) {
             if differences == 0 {

@@ -6,15 +6,13 @@ use std::collections::BTreeSet;
 use std::fs;
 use std::path::{Path, PathBuf};
 
-use differential::programs::{WRONG_DIALECTS, of_length};
+use differential::programs::of_length;
 use differential::{NO_ORACLE, fewer, left_out, listings, oracle};
 use program::{MISSING, Program};
 
-/// A stored input, the words that the program is started with, and the
-/// listing that it has.
+/// A stored input, and the listing that it has.
 struct Case {
     name: String,
-    words: Vec<String>,
     input: Vec<u8>,
     listing: String,
 }
@@ -23,10 +21,6 @@ impl Case {
     /// Whether a listing is this case's own, byte for byte.
     fn is(&self, listing: &[u8]) -> bool {
         listing == self.listing.as_bytes()
-    }
-
-    fn words(&self) -> Vec<&str> {
-        self.words.iter().map(String::as_str).collect()
     }
 }
 
@@ -46,7 +40,6 @@ fn cases() -> Vec<Case> {
                 .unwrap_or_default()
                 .to_string_lossy()
                 .into(),
-            words: words(&text(&path)),
             input: bytes(&text(&path)),
             listing: text(&path.with_extension("out")),
         })
@@ -55,21 +48,10 @@ fn cases() -> Vec<Case> {
     cases
 }
 
-/// What stands before the words of a stored input.
-const STARTED: &str = "x87lift";
-
-/// The words of a stored input: those behind the program's name, if it
-/// stands there.
-fn words(text: &str) -> Vec<String> {
-    let mut lines = text.lines().filter_map(|line| line.strip_prefix(STARTED));
-    let words = lines.next().unwrap_or_default().split_whitespace();
-    words.map(str::to_owned).collect()
-}
-
 /// The bytes of a stored input.
 fn bytes(text: &str) -> Vec<u8> {
     let mut bytes = Vec::new();
-    for line in text.lines().filter(|line| !line.starts_with(STARTED)) {
+    for line in text.lines() {
         let line = line.split('#').next().unwrap_or_default();
         let (times, line) = line.split_once('*').unwrap_or(("1", line));
         let times = times.trim().parse().expect("a number of times");
@@ -96,8 +78,7 @@ fn stored_inputs_have_their_listings() {
         return;
     };
     for case in cases() {
-        let got = program.listing(&case.words(), &case.input);
-        let got = got.expect("the program runs");
+        let got = program.listing(&case.input).expect("the program runs");
         assert!(
             case.is(&got),
             "{}: got\n{}",
@@ -111,7 +92,7 @@ fn stored_inputs_have_their_listings() {
 #[test]
 fn stored_listings_are_those_of_the_rust() {
     for case in cases() {
-        let expected = listings::expect(&case.words(), &case.input);
+        let expected = listings::expect(&case.input);
         assert!(case.is(expected.text.as_bytes()), "{}", case.name);
         assert_eq!(expected.tree, None, "{}", case.name);
     }
@@ -128,7 +109,7 @@ fn stored_inputs_end_in_every_way() {
     let mut numbers: Vec<u32> = cases().iter().map(ends).collect();
     numbers.sort_unstable();
     numbers.dedup();
-    assert_eq!(numbers, [0, 3, 4, 6, 7, 11, 12, 33]);
+    assert_eq!(numbers, [0, 3, 4, 6, 7, 11, 12]);
 }
 
 #[test]
@@ -168,7 +149,7 @@ fn up_to_16384_bytes_are_taken() {
         return;
     };
     let listing = |input: &[u8]| {
-        let got = program.listing(&[], input).expect("the program runs");
+        let got = program.listing(input).expect("the program runs");
         String::from_utf8(got).expect("a listing is text")
     };
     for length in [16_383, 16_384] {
@@ -193,20 +174,17 @@ fn the_program_lists_as_the_manual_and_the_rust() {
     let report = listings::run(&program, fewer(3_000), 2).expect("the program runs");
     println!("{report}");
     assert!(report.is_equal(), "{report}");
-    for number in [0, 3, 4, 6, 7, 11, 12, 13, 33] {
+    for number in [0, 3, 4, 6, 7, 11, 12, 13] {
         assert!(report.expecting(number) > fewer(20), "{number}: {report}");
     }
     assert!(
         report.details.iter().all(|&count| count > fewer(20)),
         "{report}"
     );
-    for dialect in [0, 1] {
-        assert!(report.decided.by(dialect) > fewer(100), "{report}");
-    }
 }
 
-/// With an argument that names no dialect the program reads nothing: it says
-/// its version, which is that of the tools, or what it does.
+/// With an argument the program reads nothing: it says its version, which
+/// is that of the tools, or what it does.
 #[test]
 fn the_program_says_what_it_is() {
     let Some(program) = Program::at_hand() else {
@@ -223,27 +201,19 @@ fn the_program_says_what_it_is() {
         &["--help"][..],
         &[""],
         &["--versio"],
-        &["--dialec", "1"],
-        &["--dialect", "1", "1"],
-        &["1", "--dialect"],
         &["a-long-argument-of-24-byte"],
     ] {
         let help = said(words);
         assert!(
-            help.starts_with("usage: x87lift [--dialect DIALECT] < RECORDS > LISTING\n"),
+            help.starts_with("usage: x87lift < RECORDS > LISTING\n"),
             "{help}"
         );
         for limit in ["16,384", "1,024", "256"] {
             assert!(help.contains(limit), "{limit}");
         }
     }
-    // Without one, or with a dialect, it takes what it reads for records.
-    for words in [&[][..], &["--dialect", "0"], &["--dialect", "1"]] {
-        assert_eq!(said(words), "d 0 0 0\nr 12 0\n");
-    }
-    for words in WRONG_DIALECTS {
-        assert_eq!(said(words), "d 0 0 0\nr 33 0\n", "{words:?}");
-    }
+    // Without one it takes what it reads for records.
+    assert_eq!(said(&[]), "d 0 0 0\nr 12 0\n");
 }
 
 /// Every listing can be read by a person: no line of it is refused, and
@@ -254,14 +224,11 @@ fn listings_are_shown() {
     let mut rng = differential::rng::Rng::new(4);
     let mut longest = 0;
     for (_, input) in differential::programs::batch(&mut rng) {
-        let words = differential::programs::words(&mut rng);
-        let expected = listings::expect(words, &input);
-        let listing = expected.text;
-        let text = match x87show::show(sleetgate::Settings::default(), &listing, None) {
+        let listing = listings::expect(&input).text;
+        let text = match x87show::show(&listing, None) {
             Ok(shown) => shown.text,
-            // The listing of no input at all, or in no dialect: the step
-            // before failed.
-            Err(_) if input.is_empty() || expected.number == plain::NO_DIALECT => continue,
+            // The listing of no input at all: the step before failed.
+            Err(_) if input.is_empty() => continue,
             Err(wrong) => panic!("{wrong}\n{listing}"),
         };
         longest = longest.max(text.lines().map(str::len).max().unwrap_or(0));

@@ -92,14 +92,10 @@ fn the_library_gives_the_stored_answers_on_formulas() {
     equal_with(&images, &[0, 9]);
 }
 
-/// Equal, and among the stored ones are each detail, and for each name that
-/// takes a place what the dialect decides.
+/// Equal, and each detail is among the stored ones.
 fn equal_with_details(report: &Report) {
     equal(report);
     assert!(report.details.iter().all(|&count| count >= 20), "{report}");
-    assert!(report.expecting(33) >= 200, "{report}");
-    assert!(report.decided.by(0) >= 20, "{report}");
-    assert!(report.decided.rarest() >= 1, "{report}");
 }
 
 #[test]

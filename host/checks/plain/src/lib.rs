@@ -1,16 +1,15 @@
 //! The rules of the manual (`docs/MANUAL.md`) said plainly in Rust: what
-//! an instruction is and how it lies in bytes, what the settings of a call
-//! are, which instructions are refused, why one is declined, how records are
-//! read, which states are valid, which nodes have a sort, which given values
-//! fit, what an 80-bit image holds, and how formulas are written as text and
-//! read back. Written for being read, not for speed.
+//! an instruction is and how it lies in bytes, which instructions are
+//! refused, why one is declined, how records are read, which states are
+//! valid, which nodes have a sort, which given values fit, what an 80-bit
+//! image holds, and how formulas are written as text and read back. Written
+//! for being read, not for speed.
 
 pub mod every_text;
 mod flat;
 pub mod image;
 mod reader;
 mod refusals;
-mod settings;
 pub mod smt;
 pub mod sorts;
 pub mod state;
@@ -20,18 +19,12 @@ mod why;
 pub use flat::{FLAT, Instruction, OPERANDS, Operand, TEXT, Text};
 pub use reader::{Outcome, read, record};
 pub use refusals::refusal;
-pub use settings::{SETTINGS, Settings};
 pub use why::why;
 
 /// Kinds of an operand.
 pub const REGISTER: u8 = 0;
 pub const MEMORY: u8 = 1;
 pub const OTHER: u8 = 2;
-
-/// The dialects: a place has its number in parentheses; or a bare `st` is
-/// the place 0 too.
-pub const PARENTHESISED: u8 = 0;
-pub const BARE: u8 = 1;
 
 /// Numbers that calls give back.
 pub const MODELLED: u32 = 0;
@@ -50,7 +43,6 @@ pub const ENDS_EARLY: u32 = 12;
 pub const INPUT_TOO_LONG: u32 = 13;
 pub const NO_ROOT: u32 = 31;
 pub const TEXT_TOO_LONG: u32 = 32;
-pub const NO_DIALECT: u32 = 33;
 pub const NO_TEXT: u32 = 41;
 
 /// Details of a decline, in the order in which they are tested.

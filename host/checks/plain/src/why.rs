@@ -1,8 +1,8 @@
 //! Why an instruction is declined: the first of five details that holds.
 
 use crate::{
-    BARE, Instruction, MEMORY, Operand, REGISTER, Settings, Text, UNKNOWN_ADDRESS, UNKNOWN_NAME,
-    WRONG_COUNT, WRONG_KIND, WRONG_WIDTH,
+    Instruction, MEMORY, Operand, REGISTER, Text, UNKNOWN_ADDRESS, UNKNOWN_NAME, WRONG_COUNT,
+    WRONG_KIND, WRONG_WIDTH,
 };
 
 /// What a name takes as one of its operands. Widths are in bits.
@@ -24,14 +24,8 @@ enum Takes {
 
 use Takes::{Anything, AxOrMemory, Memory, Place, PlaceOrMemory, Top};
 
-/// An operand, and the place that it names, if it names one.
-struct Given<'a> {
-    operand: &'a Operand,
-    place: Option<u8>,
-}
-
 /// Whether a detail holds of an operand, where this is taken.
-type Test = fn(Takes, &Given) -> bool;
+type Test = fn(Takes, &Operand) -> bool;
 
 /// The lists of operands that a name takes, no two of one length.
 type Lists = &'static [&'static [Takes]];
@@ -76,19 +70,14 @@ const NAMES: [(&[&str], Lists); 12] = [
     (&["fnstsw", "fstsw"], &[&[AxOrMemory(&[16])]]),
 ];
 
-/// The detail of an instruction that is not refused in these settings: the
-/// first that holds, in rising order, or 0 where none does and the
-/// instruction is modelled.
+/// The detail of an instruction that is not refused: the first that holds,
+/// in rising order, or 0 where none does and the instruction is modelled.
 #[must_use]
-pub fn why(settings: Settings, insn: &Instruction) -> u32 {
+pub fn why(insn: &Instruction) -> u32 {
     let Some(lists) = lists(&insn.mnemonic) else {
         return UNKNOWN_NAME;
     };
-    let read = |operand| Given {
-        operand,
-        place: place(settings, operand),
-    };
-    let given: Vec<Given> = insn.used().iter().map(read).collect();
+    let given = insn.used();
     let Some(list) = lists.iter().find(|list| list.len() == given.len()) else {
         return WRONG_COUNT;
     };
@@ -98,8 +87,8 @@ pub fn why(settings: Settings, insn: &Instruction) -> u32 {
         (WRONG_WIDTH, wrong_width),
     ];
     let holds = |test: Test| {
-        let mut operands = list.iter().zip(&given);
-        operands.any(|(&takes, given)| test(takes, given))
+        let mut operands = list.iter().zip(given);
+        operands.any(|(&takes, operand)| test(takes, operand))
     };
     let first = tests.into_iter().find(|&(_, test)| holds(test));
     first.map_or(0, |(detail, _)| detail)
@@ -114,27 +103,26 @@ fn lists(mnemonic: &Text) -> Option<Lists> {
 
 /// An operand of another kind, a register that is not taken, or another
 /// place than `st(0)` where only that is taken.
-fn wrong_kind(takes: Takes, given: &Given) -> bool {
-    let is_memory = given.operand.kind == MEMORY;
+fn wrong_kind(takes: Takes, operand: &Operand) -> bool {
+    let place = place(operand);
+    let is_memory = operand.kind == MEMORY;
     match takes {
-        Place => given.place.is_none(),
-        Top => given.place != Some(0),
+        Place => place.is_none(),
+        Top => place != Some(0),
         Memory(_) => !is_memory,
-        PlaceOrMemory(_) => given.place.is_none() && !is_memory,
-        AxOrMemory(_) => !is_ax(given.operand) && !is_memory,
+        PlaceOrMemory(_) => place.is_none() && !is_memory,
+        AxOrMemory(_) => !is_ax(operand) && !is_memory,
         Anything => false,
     }
 }
 
 /// Memory that is taken, at an address that is not known.
-fn unknown_address(takes: Takes, given: &Given) -> bool {
-    let operand = given.operand;
+fn unknown_address(takes: Takes, operand: &Operand) -> bool {
     widths(takes).is_some() && operand.kind == MEMORY && operand.known == 0
 }
 
 /// Memory that is taken, but not of this width.
-fn wrong_width(takes: Takes, given: &Given) -> bool {
-    let operand = given.operand;
+fn wrong_width(takes: Takes, operand: &Operand) -> bool {
     let listed = |widths: &[u16]| widths.contains(&operand.width);
     operand.kind == MEMORY && widths(takes).is_some_and(|widths| !listed(widths))
 }
@@ -148,16 +136,12 @@ fn widths(takes: Takes) -> Option<&'static [u16]> {
 }
 
 /// The place that a register's text names: `st(`, perhaps a `+`, one or
-/// more digits, `)`, of a number from 0 to 7; in the bare dialect `st` alone
-/// is the place 0.
-fn place(settings: Settings, operand: &Operand) -> Option<u8> {
+/// more digits, `)`, of a number from 0 to 7.
+fn place(operand: &Operand) -> Option<u8> {
     if operand.kind != REGISTER {
         return None;
     }
     let text = operand.text.as_read();
-    if settings.dialect == BARE && text == b"st" {
-        return Some(0);
-    }
     let inner = text.strip_prefix(b"st(")?.strip_suffix(b")")?;
     let digits = inner.strip_prefix(b"+").unwrap_or(inner);
     let (&last, before) = digits.split_last()?;
@@ -172,7 +156,7 @@ fn is_ax(operand: &Operand) -> bool {
 #[cfg(test)]
 mod tests {
     use super::{NAMES, place, why};
-    use crate::{BARE, Instruction, Operand, Settings};
+    use crate::{Instruction, Operand};
 
     fn st(place: u8) -> Operand {
         Operand::register(format!("st({place})").as_bytes())
@@ -188,12 +172,8 @@ mod tests {
         Operand::memory(width, false, 7, 0)
     }
 
-    fn detail_in(settings: Settings, name: &str, operands: &[Operand]) -> u32 {
-        why(settings, &Instruction::new(16, name.as_bytes(), operands))
-    }
-
     fn detail(name: &str, operands: &[Operand]) -> u32 {
-        detail_in(Settings::default(), name, operands)
+        why(&Instruction::new(16, name.as_bytes(), operands))
     }
 
     #[test]
@@ -306,41 +286,24 @@ mod tests {
         let mut insn = Instruction::new(0, b"fld", &[memory(32), Operand::other(), st(9)]);
         insn.count = 1;
         insn.operands[0].text = st(9).text;
-        assert_eq!(why(Settings::default(), &insn), 0);
+        assert_eq!(why(&insn), 0);
         insn.operands[0].kind = crate::OTHER;
         insn.operands[0].text = st(1).text;
-        assert_eq!(why(Settings::default(), &insn), 23);
+        assert_eq!(why(&insn), 23);
     }
 
     #[test]
     fn places_are_those_of_the_manual() {
-        for settings in [Settings::default(), Settings::of(BARE)] {
-            let of = |text: &str| place(settings, &Operand::register(text.as_bytes()));
-            assert_eq!(
-                ["st(0)", "ST(3)", "\x0bst(+3)", "st(007)"].map(of),
-                [Some(0), Some(3), Some(3), Some(7)]
-            );
-            for text in [
-                "", "s", "stx", "s t", "st0", "st(", "st()", "st(+)", "st(-0)", "st( 1)", "st(8)",
-                "st(10)", "eax",
-            ] {
-                assert_eq!(of(text), None, "{text}");
-            }
-            assert_eq!(place(settings, &memory(32)), None);
+        let of = |text: &str| place(&Operand::register(text.as_bytes()));
+        assert_eq!(
+            ["st(0)", "ST(3)", "\x0bst(+3)", "st(007)"].map(of),
+            [Some(0), Some(3), Some(3), Some(7)]
+        );
+        for text in [
+            "st", "st0", "st()", "st(+)", "st(-0)", "st( 1)", "st(8)", "st(10)", "eax",
+        ] {
+            assert_eq!(of(text), None, "{text}");
         }
-    }
-
-    #[test]
-    fn a_bare_st_is_a_place_in_its_dialect_alone() {
-        for text in ["st", "ST", "\tsT\r ", "  st"] {
-            let bare = Operand::register(text.as_bytes());
-            assert_eq!(place(Settings::default(), &bare), None, "{text}");
-            assert_eq!(place(Settings::of(BARE), &bare), Some(0), "{text}");
-            for (name, operands) in [("fld", &[bare][..]), ("fcmove", &[bare, st(2)])] {
-                assert_eq!(detail(name, operands), 23, "{text}");
-                assert_eq!(detail_in(Settings::of(BARE), name, operands), 0, "{text}");
-            }
-        }
-        assert_eq!(detail_in(Settings::of(BARE), "fnstsw", &[st(0)]), 23);
+        assert_eq!(place(&memory(32)), None);
     }
 }

@@ -52,21 +52,20 @@ impl Program {
         Ok(done.stdout)
     }
 
-    /// What it writes for an input when it is started with these arguments.
+    /// What it writes for an input.
     ///
     /// # Errors
     /// Where it cannot be run, ends with a status other than 0, or writes
     /// to standard error.
-    pub fn listing(&self, words: &[&str], input: &[u8]) -> io::Result<Vec<u8>> {
+    pub fn listing(&self, input: &[u8]) -> io::Result<Vec<u8>> {
         let mut child = emulator::command(&self.0)
-            .args(words)
             .stdin(Stdio::piped())
             .stdout(Stdio::piped())
             .stderr(Stdio::piped())
             .spawn()?;
         if let Some(mut stdin) = child.stdin.take() {
             match stdin.write_all(input) {
-                // It reads no more than it needs to refuse the run.
+                // It reads no more than it needs to refuse a long input.
                 Err(e) if e.kind() == ErrorKind::BrokenPipe => {}
                 written => written?,
             }

@@ -9,7 +9,6 @@ use std::io;
 use std::path::PathBuf;
 
 use program::Program;
-use sleetgate::Settings;
 use x87rec::{Options, Take, hexadecimal, translate};
 use x87show::show;
 
@@ -98,10 +97,9 @@ impl Case {
 /// Where a step fails.
 pub fn told(text: &str, options: &Options, program: &Program) -> io::Result<String> {
     let records = translate(text, options).map_err(io::Error::other)?;
-    let listing = program.listing(&[], &records.bytes())?;
+    let listing = program.listing(&records.bytes())?;
     let listing = String::from_utf8(listing).map_err(io::Error::other)?;
-    let shown =
-        show(Settings::default(), &listing, Some(&records.notes)).map_err(io::Error::other)?;
+    let shown = show(&listing, Some(&records.notes)).map_err(io::Error::other)?;
     Ok(shown.text)
 }
 

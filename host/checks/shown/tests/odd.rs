@@ -7,14 +7,8 @@ use std::io::Write as _;
 use notes::Notes;
 use program::{MISSING, Program};
 use shown::{CASES, options};
-use sleetgate::Settings;
 use x87rec::translate;
-use x87show::{Shown, Wrong};
-
-/// What is shown of a listing.
-fn show(listing: &str, notes: Option<&Notes>) -> Result<Shown, Wrong> {
-    x87show::show(Settings::default(), listing, notes)
-}
+use x87show::show;
 
 /// Random numbers, from a seed.
 struct Random(u64);
@@ -89,7 +83,7 @@ fn runs(program: &Program) -> Vec<(String, String)> {
         let text = fs::read_to_string(text).expect("the text is there");
         let options = options(case.words).expect("they are right");
         let translated = translate(&text, &options).expect("it is read");
-        let listing = program.listing(&[], &translated.bytes()).expect("it runs");
+        let listing = program.listing(&translated.bytes()).expect("it runs");
         let listing = String::from_utf8(listing).expect("a listing is text");
         (listing, translated.notes.to_string())
     };

@@ -5,7 +5,6 @@ use std::io::Write as _;
 use std::path::Path;
 
 use program::{MISSING, Program};
-use sleetgate::Settings;
 use x87rec::{Options, Take, translate};
 use x87show::show;
 
@@ -50,11 +49,9 @@ fn ways() -> [(&'static str, &'static str, Options); 4] {
 fn told(program: &Program, objdump: impl Fn(&str) -> String) -> String {
     let told = ways().map(|(name, words, options)| {
         let records = translate(&objdump(name), &options).expect("the disassembly is read");
-        let listing = program.listing(&[], &records.bytes());
-        let listing = listing.expect("the program runs");
+        let listing = program.listing(&records.bytes()).expect("the program runs");
         let listing = String::from_utf8(listing).expect("a listing is text");
-        let shown = show(Settings::default(), &listing, Some(&records.notes));
-        let shown = shown.expect("it is a listing");
+        let shown = show(&listing, Some(&records.notes)).expect("it is a listing");
         let text = shown.text;
         format!(
             "$ x87rec {words} --names names < {name}.objdump | x87lift | x87show --names names\n{text}"

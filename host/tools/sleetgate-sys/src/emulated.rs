@@ -17,7 +17,7 @@ thread_local! {
 const WORD: usize = 8;
 
 /// Slices of a request, used or not.
-const SLICES: usize = 6;
+const SLICES: usize = 5;
 
 /// The calls, numbered as in `served.c`.
 #[derive(Clone, Copy)]
@@ -34,7 +34,6 @@ enum Call {
     Evaluate,
     SmtWrite,
     SmtRead,
-    Settings,
 }
 
 /// A slice that is lent; those that are only read stand first in a call.
@@ -121,27 +120,21 @@ fn ask(call: Call, numbers: [u64; 2], lent: &mut [Lent]) -> u32 {
     u32::from_le_bytes(*number.first_chunk().expect("a word"))
 }
 
-/// As [`crate::settings`].
-#[must_use]
-pub fn settings() -> u32 {
-    ask(Call::Settings, [0; 2], &mut [])
-}
-
 /// As [`crate::classify`], on any lengths.
-pub fn classify(settings: &[u8], flat: &[u8], out: &mut [u64]) -> u32 {
-    let lent = &mut [Bytes(settings), Bytes(flat), WrittenWords(out)];
+pub fn classify(flat: &[u8], out: &mut [u64]) -> u32 {
+    let lent = &mut [Bytes(flat), WrittenWords(out)];
     ask(Call::Classify, [0; 2], lent)
 }
 
 /// As [`crate::why`], on any lengths.
-pub fn why(settings: &[u8], flat: &[u8], out: &mut [u64]) -> u32 {
-    let lent = &mut [Bytes(settings), Bytes(flat), WrittenWords(out)];
+pub fn why(flat: &[u8], out: &mut [u64]) -> u32 {
+    let lent = &mut [Bytes(flat), WrittenWords(out)];
     ask(Call::Why, [0; 2], lent)
 }
 
 /// As [`crate::effect`], on any lengths.
-pub fn effect(settings: &[u8], flat: &[u8], out: &mut [u64]) -> u32 {
-    let lent = &mut [Bytes(settings), Bytes(flat), WrittenWords(out)];
+pub fn effect(flat: &[u8], out: &mut [u64]) -> u32 {
+    let lent = &mut [Bytes(flat), WrittenWords(out)];
     ask(Call::Effect, [0; 2], lent)
 }
 
@@ -153,7 +146,6 @@ pub fn read_record(input: &[u8], at: usize, flat: &mut [u8], out: &mut [u64]) ->
 
 /// As [`crate::lift`], on any lengths.
 pub fn lift(
-    settings: &[u8],
     flat: &[u8],
     state: &mut [u64],
     nodes: &mut [u64],
@@ -161,13 +153,12 @@ pub fn lift(
     out: &mut [u64],
 ) -> u32 {
     let [state, nodes, statements, out] = [state, nodes, statements, out].map(WrittenWords);
-    let lent = &mut [Bytes(settings), Bytes(flat), state, nodes, statements, out];
+    let lent = &mut [Bytes(flat), state, nodes, statements, out];
     ask(Call::Lift, [0; 2], lent)
 }
 
 /// As [`crate::lift_record`], on any lengths.
 pub fn lift_record(
-    settings: &[u8],
     input: &[u8],
     at: usize,
     state: &mut [u64],
@@ -176,7 +167,7 @@ pub fn lift_record(
     out: &mut [u64],
 ) -> u32 {
     let [state, nodes, statements, out] = [state, nodes, statements, out].map(WrittenWords);
-    let lent = &mut [Bytes(settings), Bytes(input), state, nodes, statements, out];
+    let lent = &mut [Bytes(input), state, nodes, statements, out];
     ask(Call::LiftRecord, [at as u64, 0], lent)
 }
 

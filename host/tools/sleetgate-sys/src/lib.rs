@@ -8,17 +8,7 @@
 //! refusal. The functions here test the lengths themselves before they
 //! call the library; those in [`untested`] hand over any slices as they
 //! are, so that the library's own tests can be compared.
-//!
-//! A call that reads a place on the stack is lent settings, one byte each:
-//! the first is the dialect, and 33 is answered where it is neither 0 nor 1.
-//! [`settings`] is how many the library takes. The functions here that are
-//! lent settings ask for it once, and panic where it is not [`SETTINGS`]: the
-//! library is then one of another version.
 
-use std::sync::OnceLock;
-
-/// Bytes of settings.
-pub const SETTINGS: usize = 1;
 /// Bytes of an instruction.
 pub const FLAT: usize = 177;
 /// Words of a form.
@@ -78,59 +68,32 @@ fn too_short(out: &mut [u64], told: usize) -> u32 {
     TOO_SHORT
 }
 
-/// How many settings a call of the library takes, a byte each: [`SETTINGS`],
-/// where it is the library that this was made for.
-#[must_use]
-pub fn settings() -> u32 {
-    untested::settings()
-}
-
-/// Settings as they are lent to the library, which is asked once how many it
-/// takes.
-fn lent(lent: &[u8]) -> &[u8] {
-    static TAKEN: OnceLock<u32> = OnceLock::new();
-    matched(*TAKEN.get_or_init(settings));
-    lent
-}
-
-/// Panics where a library that takes so many settings is not the one that
-/// this was made for.
-fn matched(taken: u32) {
-    assert!(
-        usize::try_from(taken) == Ok(SETTINGS),
-        "a call of the library takes {taken} settings, and this was made for {SETTINGS}: they are \
-         of two versions; make the library by `rt staticlib export`, then build this again, both \
-         from the same sources"
-    );
-}
-
-/// Classify the instruction in the first 177 bytes of `flat`. The first
-/// eight words of `out` become the form; words beyond stay. Refusals are 10,
-/// 33, 4, 3, in this order, here and in [`why`] and [`effect`].
-pub fn classify(settings: &[u8], flat: &[u8], out: &mut [u64]) -> u32 {
-    if settings.len() < SETTINGS || flat.len() < FLAT || out.len() < FORM {
+/// Classify the instruction in the first 177 bytes. The first eight words
+/// of `out` become the form; words beyond stay.
+pub fn classify(flat: &[u8], out: &mut [u64]) -> u32 {
+    if flat.len() < FLAT || out.len() < FORM {
         return too_short(out, FORM);
     }
-    untested::classify(lent(settings), flat, out)
+    untested::classify(flat, out)
 }
 
 /// Why the instruction in the first 177 bytes is declined: the answer is
 /// that of [`classify`], and the first word of `out` becomes the detail, 21
 /// to 25 beside 1 and else 0; words beyond stay.
-pub fn why(settings: &[u8], flat: &[u8], out: &mut [u64]) -> u32 {
-    if settings.len() < SETTINGS || flat.len() < FLAT || out.len() < DETAIL {
+pub fn why(flat: &[u8], out: &mut [u64]) -> u32 {
+    if flat.len() < FLAT || out.len() < DETAIL {
         return too_short(out, DETAIL);
     }
-    untested::why(lent(settings), flat, out)
+    untested::why(flat, out)
 }
 
 /// The effect of the instruction in the first 177 bytes. The first seven
 /// words of `out` become 0 or 1; words beyond stay.
-pub fn effect(settings: &[u8], flat: &[u8], out: &mut [u64]) -> u32 {
-    if settings.len() < SETTINGS || flat.len() < FLAT || out.len() < EFFECT {
+pub fn effect(flat: &[u8], out: &mut [u64]) -> u32 {
+    if flat.len() < FLAT || out.len() < EFFECT {
         return too_short(out, EFFECT);
     }
-    untested::effect(lent(settings), flat, out)
+    untested::effect(flat, out)
 }
 
 /// Read one record of `input` at `at`. The first two words of `out`
@@ -146,21 +109,18 @@ pub fn read_record(input: &[u8], at: usize, flat: &mut [u8], out: &mut [u64]) ->
 /// Lift the instruction in the first 177 bytes. The first 13 words of
 /// `state` become the next state: eight slots, depth, nodes, statements, inputs,
 /// temporaries. The lists are rows of four words. The first word of `out`
-/// becomes the detail of a decline, 21 to 25 beside 1 and else 0. Refusals
-/// are 10, 5, 33, 4, 3, 6, 7, in this order.
+/// becomes the detail of a decline, 21 to 25 beside 1 and else 0.
 pub fn lift(
-    settings: &[u8],
     flat: &[u8],
     state: &mut [u64],
     nodes: &mut [u64],
     statements: &mut [u64],
     out: &mut [u64],
 ) -> u32 {
-    let short = settings.len() < SETTINGS || flat.len() < FLAT || state.len() < STATE;
-    if short || out.len() < DETAIL {
+    if flat.len() < FLAT || state.len() < STATE || out.len() < DETAIL {
         return too_short(out, DETAIL);
     }
-    untested::lift(lent(settings), flat, state, nodes, statements, out)
+    untested::lift(flat, state, nodes, statements, out)
 }
 
 /// Read one record of `input` at `at` and lift it, as [`read_record`] and
@@ -168,9 +128,7 @@ pub fn lift(
 /// or the offending place (the record's own for a refusal of the lifter)
 /// and 0; at the end mark nothing is lifted, and they become the place
 /// after it and 0. The third word becomes the detail, as in [`lift`].
-/// Refusals are 10, those of [`read_record`], then 5, 33, 6, 7.
 pub fn lift_record(
-    settings: &[u8],
     input: &[u8],
     at: usize,
     state: &mut [u64],
@@ -178,10 +136,10 @@ pub fn lift_record(
     statements: &mut [u64],
     out: &mut [u64],
 ) -> u32 {
-    if settings.len() < SETTINGS || state.len() < STATE || out.len() < STEP {
+    if state.len() < STATE || out.len() < STEP {
         return too_short(out, STEP);
     }
-    untested::lift_record(lent(settings), input, at, state, nodes, statements, out)
+    untested::lift_record(input, at, state, nodes, statements, out)
 }
 
 /// Read an image of ten bytes. The first two words of `out` become its
@@ -264,20 +222,3 @@ pub mod untested;
 #[cfg(no_library)]
 #[path = "missing.rs"]
 pub mod untested;
-
-#[cfg(test)]
-mod tests {
-    use super::*;
-
-    #[test]
-    fn a_library_of_another_version_is_told() {
-        matched(1);
-        for taken in [0, 2, u32::MAX] {
-            let said = std::panic::catch_unwind(|| matched(taken)).expect_err("it panics");
-            let said = said.downcast_ref::<String>().expect("it is a sentence");
-            let begin =
-                format!("a call of the library takes {taken} settings, and this was made for 1: ");
-            assert!(said.starts_with(&begin), "{said}");
-        }
-    }
-}

@@ -1,34 +1,11 @@
 //! The library's functions on any slices.
 
 unsafe extern "C" {
-    fn x87_settings() -> u32;
+    fn x87_classify(flat: *const u8, flat_len: usize, out: *mut u64, out_len: usize) -> u32;
 
-    fn x87_classify(
-        settings: *const u8,
-        settings_len: usize,
-        flat: *const u8,
-        flat_len: usize,
-        out: *mut u64,
-        out_len: usize,
-    ) -> u32;
+    fn x87_why(flat: *const u8, flat_len: usize, out: *mut u64, out_len: usize) -> u32;
 
-    fn x87_why(
-        settings: *const u8,
-        settings_len: usize,
-        flat: *const u8,
-        flat_len: usize,
-        out: *mut u64,
-        out_len: usize,
-    ) -> u32;
-
-    fn x87_effect(
-        settings: *const u8,
-        settings_len: usize,
-        flat: *const u8,
-        flat_len: usize,
-        out: *mut u64,
-        out_len: usize,
-    ) -> u32;
+    fn x87_effect(flat: *const u8, flat_len: usize, out: *mut u64, out_len: usize) -> u32;
 
     fn x87_read_record(
         input: *const u8,
@@ -41,10 +18,8 @@ unsafe extern "C" {
     ) -> u32;
 
     fn x87_lift(
-        settings: *const u8,
-        settings_len: usize,
-        flat: *const u8,
-        flat_len: usize,
+        record: *const u8,
+        record_len: usize,
         state: *mut u64,
         state_len: usize,
         nodes: *mut u64,
@@ -56,8 +31,6 @@ unsafe extern "C" {
     ) -> u32;
 
     fn x87_lift_record(
-        settings: *const u8,
-        settings_len: usize,
         input: *const u8,
         input_len: usize,
         at: usize,
@@ -123,57 +96,23 @@ unsafe extern "C" {
     ) -> u32;
 }
 
-/// As [`crate::settings`].
-#[must_use]
-pub fn settings() -> u32 {
-    // SAFETY: it takes nothing, and answers a number.
-    unsafe { x87_settings() }
-}
-
 /// As [`crate::classify`], on any lengths.
-pub fn classify(settings: &[u8], flat: &[u8], out: &mut [u64]) -> u32 {
+pub fn classify(flat: &[u8], out: &mut [u64]) -> u32 {
     // SAFETY: each pointer comes from a slice of the length beside it,
-    // what is written overlaps no other, and the library keeps none.
-    unsafe {
-        x87_classify(
-            settings.as_ptr(),
-            settings.len(),
-            flat.as_ptr(),
-            flat.len(),
-            out.as_mut_ptr(),
-            out.len(),
-        )
-    }
+    // the two do not overlap, and the library keeps neither.
+    unsafe { x87_classify(flat.as_ptr(), flat.len(), out.as_mut_ptr(), out.len()) }
 }
 
 /// As [`crate::why`], on any lengths.
-pub fn why(settings: &[u8], flat: &[u8], out: &mut [u64]) -> u32 {
+pub fn why(flat: &[u8], out: &mut [u64]) -> u32 {
     // SAFETY: as in `classify`.
-    unsafe {
-        x87_why(
-            settings.as_ptr(),
-            settings.len(),
-            flat.as_ptr(),
-            flat.len(),
-            out.as_mut_ptr(),
-            out.len(),
-        )
-    }
+    unsafe { x87_why(flat.as_ptr(), flat.len(), out.as_mut_ptr(), out.len()) }
 }
 
 /// As [`crate::effect`], on any lengths.
-pub fn effect(settings: &[u8], flat: &[u8], out: &mut [u64]) -> u32 {
+pub fn effect(flat: &[u8], out: &mut [u64]) -> u32 {
     // SAFETY: as in `classify`.
-    unsafe {
-        x87_effect(
-            settings.as_ptr(),
-            settings.len(),
-            flat.as_ptr(),
-            flat.len(),
-            out.as_mut_ptr(),
-            out.len(),
-        )
-    }
+    unsafe { x87_effect(flat.as_ptr(), flat.len(), out.as_mut_ptr(), out.len()) }
 }
 
 /// As [`crate::read_record`], on any lengths.
@@ -194,7 +133,6 @@ pub fn read_record(input: &[u8], at: usize, flat: &mut [u8], out: &mut [u64]) ->
 
 /// As [`crate::lift`], on any lengths.
 pub fn lift(
-    settings: &[u8],
     flat: &[u8],
     state: &mut [u64],
     nodes: &mut [u64],
@@ -204,8 +142,6 @@ pub fn lift(
     // SAFETY: as in `classify`.
     unsafe {
         x87_lift(
-            settings.as_ptr(),
-            settings.len(),
             flat.as_ptr(),
             flat.len(),
             state.as_mut_ptr(),
@@ -222,7 +158,6 @@ pub fn lift(
 
 /// As [`crate::lift_record`], on any lengths.
 pub fn lift_record(
-    settings: &[u8],
     input: &[u8],
     at: usize,
     state: &mut [u64],
@@ -233,8 +168,6 @@ pub fn lift_record(
     // SAFETY: as in `classify`.
     unsafe {
         x87_lift_record(
-            settings.as_ptr(),
-            settings.len(),
             input.as_ptr(),
             input.len(),
             at,

@@ -3,20 +3,15 @@
 
 use crate::MISSING;
 
-#[must_use]
-pub fn settings() -> u32 {
+pub fn classify(_: &[u8], _: &mut [u64]) -> u32 {
     panic!("{MISSING}")
 }
 
-pub fn classify(_: &[u8], _: &[u8], _: &mut [u64]) -> u32 {
+pub fn why(_: &[u8], _: &mut [u64]) -> u32 {
     panic!("{MISSING}")
 }
 
-pub fn why(_: &[u8], _: &[u8], _: &mut [u64]) -> u32 {
-    panic!("{MISSING}")
-}
-
-pub fn effect(_: &[u8], _: &[u8], _: &mut [u64]) -> u32 {
+pub fn effect(_: &[u8], _: &mut [u64]) -> u32 {
     panic!("{MISSING}")
 }
 
@@ -24,12 +19,11 @@ pub fn read_record(_: &[u8], _: usize, _: &mut [u8], _: &mut [u64]) -> u32 {
     panic!("{MISSING}")
 }
 
-pub fn lift(_: &[u8], _: &[u8], _: &mut [u64], _: &mut [u64], _: &mut [u64], _: &mut [u64]) -> u32 {
+pub fn lift(_: &[u8], _: &mut [u64], _: &mut [u64], _: &mut [u64], _: &mut [u64]) -> u32 {
     panic!("{MISSING}")
 }
 
 pub fn lift_record(
-    _: &[u8],
     _: &[u8],
     _: usize,
     _: &mut [u64],

@@ -1,9 +1,9 @@
 /* The calls of the proved library, for a machine that is not x86-64: there
    QEMU runs this program, and `emulated.rs` asks it.
 
-   A request on standard input is ten words of eight bytes: the call, its two
-   numbers, how many of its slices are only read, and how many bytes each of
-   up to six slices has. The slices follow, each filled up to whole words,
+   A request on standard input is nine words of eight bytes: the call, its
+   two numbers, how many of its slices are only read, and how many bytes each
+   of up to five slices has. The slices follow, each filled up to whole words,
    with one word before the first that is written. The answer on standard
    output is that word, and the slices behind it as the call left them. */
 
@@ -15,15 +15,14 @@ typedef uint8_t byte;
 typedef uint64_t word;
 typedef uint32_t number;
 
-extern number x87_settings(void);
-extern number x87_classify(const byte *, word, const byte *, word, word *, word);
-extern number x87_why(const byte *, word, const byte *, word, word *, word);
-extern number x87_effect(const byte *, word, const byte *, word, word *, word);
+extern number x87_classify(const byte *, word, word *, word);
+extern number x87_why(const byte *, word, word *, word);
+extern number x87_effect(const byte *, word, word *, word);
 extern number x87_read_record(const byte *, word, word, byte *, word, word *, word);
-extern number x87_lift(const byte *, word, const byte *, word, word *, word, word *, word,
-                       word *, word, word *, word);
-extern number x87_lift_record(const byte *, word, const byte *, word, word, word *, word,
-                              word *, word, word *, word, word *, word);
+extern number x87_lift(const byte *, word, word *, word, word *, word, word *, word,
+                       word *, word);
+extern number x87_lift_record(const byte *, word, word, word *, word, word *, word,
+                              word *, word, word *, word);
 extern number x87_image_read(const byte *, word, word, word, word *, word);
 extern number x87_image_write(byte *, word, word, word);
 extern number x87_check(const word *, word, word, word *, word);
@@ -32,10 +31,10 @@ extern number x87_evaluate(const word *, word, word, const word *, word, word *,
 extern number x87_smt_write(const word *, word, word, word, byte *, word, word *, word);
 extern number x87_smt_read(const byte *, word, word *, word, word *, word);
 
-enum { SLICES = 6, WORD = sizeof(word) };
+enum { SLICES = 5, WORD = sizeof(word) };
 enum {
     CLASSIFY, WHY, EFFECT, READ_RECORD, LIFT, LIFT_RECORD,
-    IMAGE_READ, IMAGE_WRITE, CHECK, EVALUATE, SMT_WRITE, SMT_READ, SETTINGS,
+    IMAGE_READ, IMAGE_WRITE, CHECK, EVALUATE, SMT_WRITE, SMT_READ,
 };
 
 struct request {
@@ -49,20 +48,19 @@ struct request {
 static number called(const struct request *asked, byte *const *slices) {
     word first = asked->numbers[0], second = asked->numbers[1];
     switch (asked->call) {
-    case CLASSIFY: return x87_classify(BYTES(0), BYTES(1), WORDS(2));
-    case WHY: return x87_why(BYTES(0), BYTES(1), WORDS(2));
-    case EFFECT: return x87_effect(BYTES(0), BYTES(1), WORDS(2));
+    case CLASSIFY: return x87_classify(BYTES(0), WORDS(1));
+    case WHY: return x87_why(BYTES(0), WORDS(1));
+    case EFFECT: return x87_effect(BYTES(0), WORDS(1));
     case READ_RECORD: return x87_read_record(BYTES(0), first, BYTES(1), WORDS(2));
-    case LIFT: return x87_lift(BYTES(0), BYTES(1), WORDS(2), WORDS(3), WORDS(4), WORDS(5));
+    case LIFT: return x87_lift(BYTES(0), WORDS(1), WORDS(2), WORDS(3), WORDS(4));
     case LIFT_RECORD:
-        return x87_lift_record(BYTES(0), BYTES(1), first, WORDS(2), WORDS(3), WORDS(4), WORDS(5));
+        return x87_lift_record(BYTES(0), first, WORDS(1), WORDS(2), WORDS(3), WORDS(4));
     case IMAGE_READ: return x87_image_read(BYTES(0), first, second, WORDS(1));
     case IMAGE_WRITE: return x87_image_write(BYTES(0), first, second);
     case CHECK: return x87_check(WORDS(0), first, WORDS(1));
     case EVALUATE: return x87_evaluate(WORDS(0), first, WORDS(1), WORDS(2), WORDS(3));
     case SMT_WRITE: return x87_smt_write(WORDS(0), first, second, BYTES(1), WORDS(2));
     case SMT_READ: return x87_smt_read(BYTES(0), WORDS(1), WORDS(2));
-    case SETTINGS: return x87_settings();
     }
     exit(1);
 }

@@ -2,7 +2,7 @@
 
 use sleetgate_sys::EFFECT;
 
-use crate::{Instruction, Refusal, Settings};
+use crate::{Instruction, Refusal};
 
 /// What an instruction touches beyond the registers and the memory that
 /// its operands name.
@@ -29,21 +29,20 @@ pub struct Effect {
 /// it, and [`why`](crate::why()) tells why.
 ///
 /// ```
-/// use sleetgate::{Instruction, Operand, Settings, effect};
+/// use sleetgate::{Instruction, Operand, effect};
 ///
-/// let settings = Settings::default();
 /// let insn = Instruction::new(0, "fnstsw", [Operand::register("ax")]);
-/// let effect_of = effect(settings, &insn)?.expect("it is modelled");
+/// let effect_of = effect(&insn)?.expect("it is modelled");
 /// assert!(effect_of.uses_status && effect_of.writes_ax && !effect_of.defines_stack);
-/// assert_eq!(effect(settings, &Instruction::new(0, "fsin", []))?, None);
+/// assert_eq!(effect(&Instruction::new(0, "fsin", []))?, None);
 /// # Ok::<(), sleetgate::Refusal>(())
 /// ```
 ///
 /// # Errors
-/// [`Refusal::Shape`], [`Refusal::Text`], in this order.
-pub fn effect(settings: Settings, insn: &Instruction) -> Result<Option<Effect>, Refusal> {
+/// [`Refusal::Shape`], [`Refusal::Text`].
+pub fn effect(insn: &Instruction) -> Result<Option<Effect>, Refusal> {
     let mut words = [0; EFFECT];
-    let number = sleetgate_sys::effect(&settings.bytes(), &insn.flat(), &mut words);
+    let number = sleetgate_sys::effect(&insn.flat(), &mut words);
     if let Some(refusal) = Refusal::told(number, 0) {
         return Err(refusal);
     }

@@ -3,7 +3,7 @@
 use sleetgate_sys::FORM;
 
 use crate::node::Rounding;
-use crate::{Instruction, Refusal, Settings};
+use crate::{Instruction, Refusal};
 
 /// A modelled instruction, resolved to what it does. The names are those
 /// of r2SMT, whose x87 module the lifter is a port of; a slot is a place
@@ -145,22 +145,21 @@ pub enum Unary {
 /// and [`why`](crate::why()) tells why.
 ///
 /// ```
-/// use sleetgate::{Arith, Form, Instruction, Operand, Settings, Source, classify};
+/// use sleetgate::{Arith, Form, Instruction, Operand, Source, classify};
 ///
-/// let settings = Settings::default();
 /// let operands = ["st(1)", "st(0)"].map(Operand::register);
-/// let form = classify(settings, &Instruction::new(0, "fsubrp", operands))?;
+/// let form = classify(&Instruction::new(0, "fsubrp", operands))?;
 /// let expected = Form::Arith { op: Arith::Sub, dst: 1, src: Source::Slot(0), reversed: true, pop: true };
 /// assert_eq!(form, Some(expected));
-/// assert_eq!(classify(settings, &Instruction::new(0, "fsin", []))?, None);
+/// assert_eq!(classify(&Instruction::new(0, "fsin", []))?, None);
 /// # Ok::<(), sleetgate::Refusal>(())
 /// ```
 ///
 /// # Errors
-/// [`Refusal::Shape`], [`Refusal::Text`], in this order.
-pub fn classify(settings: Settings, insn: &Instruction) -> Result<Option<Form>, Refusal> {
+/// [`Refusal::Shape`], [`Refusal::Text`].
+pub fn classify(insn: &Instruction) -> Result<Option<Form>, Refusal> {
     let mut words = [0; FORM];
-    let number = sleetgate_sys::classify(&settings.bytes(), &insn.flat(), &mut words);
+    let number = sleetgate_sys::classify(&insn.flat(), &mut words);
     match Refusal::told(number, 0) {
         Some(refusal) => Err(refusal),
         None => Ok((number == 0).then(|| form(words))),

@@ -29,7 +29,7 @@ pub struct Instruction {
 #[derive(Debug, Clone, PartialEq, Eq, Hash)]
 pub enum Operand {
     /// A register by its text; `st(0)` to `st(7)` are places on the
-    /// stack. The bare `st` is one only in [`Dialect::Bare`](crate::Dialect).
+    /// stack, the bare `st` is none.
     Register(String),
     /// Memory.
     Memory {
@@ -122,10 +122,9 @@ impl Operand {
     /// an instruction with `st(8)` or beyond is declined.
     ///
     /// ```
-    /// # use sleetgate::{Form, Instruction, Operand, Settings, classify};
+    /// # use sleetgate::{Form, Instruction, Operand, classify};
     /// assert_eq!(Operand::st(3), Operand::register("st(3)"));
-    /// let fxch = |n| Instruction::new(0, "fxch", [Operand::st(n)]);
-    /// let form = |n| classify(Settings::default(), &fxch(n));
+    /// let form = |n| classify(&Instruction::new(0, "fxch", [Operand::st(n)]));
     /// assert_eq!(form(7)?, Some(Form::Exchange(7)));
     /// assert_eq!(form(8)?, None);
     /// # Ok::<(), sleetgate::Refusal>(())

@@ -9,9 +9,7 @@
 //!
 //! - An [`Instruction`] has a name and at most three decoded operands.
 //!   [`classify`] says what it does to the register stack, its [`Form`];
-//!   [`effect`] says what it touches (section 2). [`Settings`] say how it
-//!   is read: in one [`Dialect`] the bare `st` of some disassemblers is
-//!   `st(0)`, in the other it is no place.
+//!   [`effect`] says what it touches (section 2).
 //! - A [`Lifter`] turns one instruction after the other into two lists and
 //!   a state. [`Nodes`] are formulas: each [`Node`] is one operation on
 //!   earlier nodes, which it names by their numbers. [`Statements`] are
@@ -53,9 +51,7 @@
 //!
 //! The library has to be built before the first call (`rt staticlib
 //! export` at the root of the repository); where it is not, each call
-//! panics and says so. A library that takes another number of [`Settings`]
-//! is of another version: each call that reads instructions by them panics
-//! then.
+//! panics and says so.
 
 #![forbid(unsafe_code)]
 #![warn(missing_docs)]
@@ -71,7 +67,6 @@ mod node;
 mod record;
 mod refusal;
 mod rows;
-mod settings;
 pub mod smt_lib;
 mod sort;
 mod statement;
@@ -86,7 +81,6 @@ pub use node::{Flag, Format, Node, Nodes, Rounding};
 pub use record::{Item, MOST_BYTES, read_record, write_end, write_record};
 pub use refusal::{Refusal, RefusedRecord};
 pub use rows::Iter;
-pub use settings::{Dialect, Settings};
 pub use sort::Sort;
 pub use statement::{Statement, Statements};
 pub use why::{Detail, Why, why};

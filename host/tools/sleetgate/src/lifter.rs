@@ -4,7 +4,7 @@ use sleetgate_sys::{DETAIL, STATE, STEP};
 
 use crate::record::place;
 use crate::rows::ROW;
-use crate::{Instruction, Nodes, Refusal, RefusedRecord, Settings, Statements, Why};
+use crate::{Instruction, Nodes, Refusal, RefusedRecord, Statements, Why};
 
 /// The largest room of a list.
 pub(crate) const MOST_ROWS: usize = 65_535;
@@ -52,18 +52,17 @@ pub struct State {
     pub temporaries: u64,
 }
 
-/// A lift under way: the state, lists of nodes and statements of a chosen
-/// room, and how instructions are read.
+/// A lift under way: the state, and lists of nodes and statements of a
+/// chosen room.
 #[derive(Debug, Clone)]
 pub struct Lifter {
-    settings: Settings,
     state: [u64; STATE],
     nodes: Vec<u64>,
     statements: Vec<u64>,
 }
 
-/// A fresh lift by the default [`Settings`] with the rooms of the program
-/// `x87lift`: 1,024 nodes and 256 statements.
+/// A fresh lift with the rooms of the program `x87lift`: 1,024 nodes and
+/// 256 statements.
 ///
 /// ```
 /// use sleetgate::{Instruction, Lifter, Refusal};
@@ -83,8 +82,8 @@ impl Default for Lifter {
 }
 
 impl Lifter {
-    /// A fresh lift by the default [`Settings`] with room for so many nodes
-    /// and statements, at most 65,535 of each.
+    /// A fresh lift with room for so many nodes and statements, at most
+    /// 65,535 of each.
     ///
     /// ```
     /// use sleetgate::{Instruction, Lifter, Refusal};
@@ -98,40 +97,10 @@ impl Lifter {
     #[must_use]
     pub fn with_capacity(nodes: usize, statements: usize) -> Self {
         Self {
-            settings: Settings::default(),
             state: [0; STATE],
             nodes: vec![0; nodes.min(MOST_ROWS) * ROW],
             statements: vec![0; statements.min(MOST_ROWS) * ROW],
         }
-    }
-
-    /// The lift as it stands, which reads what follows by these settings.
-    ///
-    /// ```
-    /// use sleetgate::{Detail, Dialect, Instruction, Lifted, Lifter, Operand, Settings, Why};
-    ///
-    /// let bare = Settings { dialect: Dialect::Bare, ..Settings::default() };
-    /// let fxch = Instruction::new(0, "fxch", [Operand::register("st")]);
-    /// let mut lifter = Lifter::default();
-    /// assert_eq!(lifter.lift(&fxch), Ok(Lifted::Declined(Why::Form(Detail::OperandKind))));
-    /// let mut lifter = Lifter::default().with_settings(bare);
-    /// assert_eq!(lifter.lift(&fxch), Ok(Lifted::Modelled));
-    /// ```
-    #[must_use]
-    pub fn with_settings(self, settings: Settings) -> Self {
-        Self { settings, ..self }
-    }
-
-    /// How it reads instructions.
-    ///
-    /// ```
-    /// use sleetgate::{Lifter, Settings};
-    ///
-    /// assert_eq!(Lifter::default().settings(), Settings::default());
-    /// ```
-    #[must_use]
-    pub fn settings(&self) -> Settings {
-        self.settings
     }
 
     /// Lift one instruction.
@@ -153,7 +122,6 @@ impl Lifter {
     pub fn lift(&mut self, insn: &Instruction) -> Result<Lifted, Refusal> {
         let mut out = [0; DETAIL];
         let number = sleetgate_sys::lift(
-            &self.settings.bytes(),
             &insn.flat(),
             &mut self.state,
             &mut self.nodes,
@@ -187,7 +155,7 @@ impl Lifter {
     /// ```
     ///
     /// # Errors
-    /// As [`read_record`](crate::read_record), then [`Lifter::lift`], with
+    /// As [`read_record`](crate::read_record) and [`Lifter::lift`], with
     /// the place.
     pub fn lift_record(
         &mut self,
@@ -196,7 +164,6 @@ impl Lifter {
     ) -> Result<Option<(Lifted, usize)>, RefusedRecord> {
         let mut out = [0; STEP];
         let number = sleetgate_sys::lift_record(
-            &self.settings.bytes(),
             input,
             at,
             &mut self.state,

@@ -7,10 +7,10 @@ use std::fmt;
 /// refused call changes nothing.
 ///
 /// ```
-/// use sleetgate::{Instruction, Refusal, Settings, classify};
+/// use sleetgate::{Instruction, Refusal, classify};
 ///
 /// let long = Instruction::new(0, "f".repeat(33), []);
-/// let refusal = classify(Settings::default(), &long).unwrap_err();
+/// let refusal = classify(&long).unwrap_err();
 /// assert_eq!((refusal, refusal.number()), (Refusal::Text, 3));
 /// assert_eq!(refusal.to_string(), "refused (3): a text over 32 bytes, or a byte over 127");
 /// ```
@@ -50,10 +50,6 @@ pub enum Refusal {
     /// 32: an SMT-LIB text does not fit. [`write`](crate::smt_lib::write)
     /// lends more then.
     TextRoom,
-    /// 33: a dialect that is neither 0 nor 1. No [settings](crate::Settings)
-    /// hold one; a word may name one, and a listing of `x87lift` then tells
-    /// this.
-    Dialect,
     /// 41: no SMT-LIB text of the kind that [`write`](crate::smt_lib::write)
     /// makes.
     Syntax {
@@ -64,7 +60,7 @@ pub enum Refusal {
 }
 
 impl Refusal {
-    /// Its number: 3 to 13, 31 to 33, or 41.
+    /// Its number: 3 to 13, 31, 32 or 41.
     #[must_use]
     pub fn number(self) -> u32 {
         match self {
@@ -81,7 +77,6 @@ impl Refusal {
             Self::TooLong => 13,
             Self::Root => 31,
             Self::TextRoom => 32,
-            Self::Dialect => 33,
             Self::Syntax { .. } => 41,
         }
     }
@@ -120,7 +115,6 @@ impl Refusal {
             13 => Self::TooLong,
             31 => Self::Root,
             32 => Self::TextRoom,
-            33 => Self::Dialect,
             41 => Self::Syntax { place },
             _ => return None,
         })
@@ -155,7 +149,6 @@ impl Refusal {
             Self::TooLong => "an input over 16,384 bytes",
             Self::Root => "the root is not in the list",
             Self::TextRoom => "the text does not fit",
-            Self::Dialect => "a dialect that is neither 0 nor 1",
             Self::Syntax { .. } => "not a text of the subset",
         }
     }

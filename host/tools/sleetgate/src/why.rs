@@ -4,7 +4,7 @@ use std::fmt;
 
 use sleetgate_sys::DETAIL;
 
-use crate::{Instruction, Refusal, Settings};
+use crate::{Instruction, Refusal};
 
 /// Why an instruction was declined.
 ///
@@ -98,12 +98,11 @@ impl fmt::Display for Why {
 /// them holds, it is the first.
 ///
 /// ```
-/// use sleetgate::{Detail, Instruction, Operand, Place, Settings, why};
+/// use sleetgate::{Detail, Instruction, Operand, Place, why};
 ///
-/// let fist = |place| Instruction::new(0, "fist", [Operand::memory(64, place)]);
-/// let detail = |place| why(Settings::default(), &fist(place));
-/// assert_eq!(detail(Place::Address(1))?, Some(Detail::Width));
-/// assert_eq!(detail(Place::Unknown)?, Some(Detail::UnknownAddress));
+/// let fist = |width, place| Instruction::new(0, "fist", [Operand::memory(width, place)]);
+/// assert_eq!(why(&fist(64, Place::Address(1)))?, Some(Detail::Width));
+/// assert_eq!(why(&fist(64, Place::Unknown))?, Some(Detail::UnknownAddress));
 /// # Ok::<(), sleetgate::Refusal>(())
 /// ```
 #[derive(Debug, Clone, Copy, PartialEq, Eq, PartialOrd, Ord, Hash)]
@@ -190,21 +189,20 @@ impl fmt::Display for Detail {
 /// lifter models it. That a push finds the stack full, only a lift tells.
 ///
 /// ```
-/// use sleetgate::{Detail, Instruction, Operand, Settings, why};
+/// use sleetgate::{Detail, Instruction, Operand, why};
 ///
-/// let fxch = |operands: &[Operand]| Instruction::new(0, "fxch", operands.to_vec());
-/// let detail = |operands: &[Operand]| why(Settings::default(), &fxch(operands));
-/// assert_eq!(detail(&[Operand::st(1)])?, None);
-/// assert_eq!(detail(&[Operand::st(0), Operand::st(1)])?, Some(Detail::OperandCount));
-/// assert_eq!(detail(&[Operand::register("eax")])?, Some(Detail::OperandKind));
+/// let fxch = |operands: &[Operand]| why(&Instruction::new(0, "fxch", operands.to_vec()));
+/// assert_eq!(fxch(&[Operand::st(1)])?, None);
+/// assert_eq!(fxch(&[Operand::st(0), Operand::st(1)])?, Some(Detail::OperandCount));
+/// assert_eq!(fxch(&[Operand::register("eax")])?, Some(Detail::OperandKind));
 /// # Ok::<(), sleetgate::Refusal>(())
 /// ```
 ///
 /// # Errors
-/// [`Refusal::Shape`], [`Refusal::Text`], in this order.
-pub fn why(settings: Settings, insn: &Instruction) -> Result<Option<Detail>, Refusal> {
+/// [`Refusal::Shape`], [`Refusal::Text`].
+pub fn why(insn: &Instruction) -> Result<Option<Detail>, Refusal> {
     let mut out = [0; DETAIL];
-    let number = sleetgate_sys::why(&settings.bytes(), &insn.flat(), &mut out);
+    let number = sleetgate_sys::why(&insn.flat(), &mut out);
     match Refusal::told(number, 0) {
         Some(refusal) => Err(refusal),
         None => Ok(Why::told(number, out[0]).and_then(Why::detail)),

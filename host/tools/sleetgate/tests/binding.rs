@@ -5,7 +5,7 @@ use std::collections::BTreeSet;
 
 use sleetgate::{
     Detail, Form, Format, Instruction, Item, Lifted, Lifter, Node, Nodes, Operand, Place, Refusal,
-    Settings, State, Statement, Why, check, classify, effect, evaluate, image, read_record, why,
+    State, Statement, Why, check, classify, effect, evaluate, image, read_record, why,
     write_record,
 };
 
@@ -19,27 +19,26 @@ fn insn(name: &str, operands: &[&str]) -> Instruction {
 
 #[test]
 fn texts_and_counts_out_of_range_are_refused() {
-    let settings = Settings::default();
     let mut lifter = Lifter::with_capacity(64, 64);
     for length in [33, 255, 256, 288, 1_000] {
         let text = "f".repeat(length);
         for long in [insn(&text, &[]), insn("fld", &[&text])] {
-            assert_eq!(classify(settings, &long), Err(Refusal::Text));
-            assert_eq!(effect(settings, &long), Err(Refusal::Text));
-            assert_eq!(why(settings, &long), Err(Refusal::Text));
+            assert_eq!(classify(&long), Err(Refusal::Text));
+            assert_eq!(effect(&long), Err(Refusal::Text));
+            assert_eq!(why(&long), Err(Refusal::Text));
             assert_eq!(lifter.lift(&long), Err(Refusal::Text));
             assert_eq!(write_record(&long, &mut Vec::new()), Err(Refusal::Text));
         }
     }
     for count in [4, 255, 256, 259, 300] {
         let many = insn("fld", &vec!["st(1)"; count]);
-        assert_eq!(classify(settings, &many), Err(Refusal::Shape));
-        assert_eq!(effect(settings, &many), Err(Refusal::Shape));
-        assert_eq!(why(settings, &many), Err(Refusal::Shape));
+        assert_eq!(classify(&many), Err(Refusal::Shape));
+        assert_eq!(effect(&many), Err(Refusal::Shape));
+        assert_eq!(why(&many), Err(Refusal::Shape));
         assert_eq!(lifter.lift(&many), Err(Refusal::Shape));
         assert_eq!(write_record(&many, &mut Vec::new()), Err(Refusal::Shape));
     }
-    assert_eq!(classify(settings, &insn("fldé", &[])), Err(Refusal::Text));
+    assert_eq!(classify(&insn("fldé", &[])), Err(Refusal::Text));
     assert_eq!(lifter.state(), State::default());
 }
 
@@ -148,8 +147,7 @@ fn a_place_is_one_of_eight() {
     let texts = (0..8).map(|n| format!("st({n})"));
     let places: Vec<Operand> = (0..8).map(Operand::st).collect();
     assert!(texts.map(Operand::register).eq(places));
-    let fld = |n| Instruction::new(0, "fld", [Operand::st(n)]);
-    let form = |n| classify(Settings::default(), &fld(n));
+    let form = |n| classify(&Instruction::new(0, "fld", [Operand::st(n)]));
     for n in 0..8 {
         assert_eq!(form(n), Ok(Some(Form::PushSlot(n))));
     }

@@ -4,8 +4,8 @@
 use std::collections::BTreeSet;
 
 use sleetgate::{
-    Detail, Instruction, Lifted, Lifter, Operand, Place, Settings, Statement, Why, classify,
-    effect, why, write_record,
+    Detail, Instruction, Lifted, Lifter, Operand, Place, Statement, Why, classify, effect, why,
+    write_record,
 };
 
 /// Each way to be declined by the form: where several hold, the first.
@@ -48,13 +48,11 @@ fn declines() -> Vec<(Instruction, Detail)> {
 /// same.
 #[test]
 fn a_decline_has_its_detail() {
-    let settings = Settings::default();
     for (insn, detail) in declines() {
         let (answer, address) = (Why::Form(detail), insn.address);
         let declined = Lifted::Declined(answer);
-        assert_eq!(why(settings, &insn), Ok(Some(detail)), "{insn:?}");
-        let (form, touched) = (classify(settings, &insn), effect(settings, &insn));
-        assert_eq!((form, touched), (Ok(None), Ok(None)));
+        assert_eq!(why(&insn), Ok(Some(detail)), "{insn:?}");
+        assert_eq!((classify(&insn), effect(&insn)), (Ok(None), Ok(None)));
         let mut lifter = Lifter::default();
         assert_eq!(lifter.lift(&insn), Ok(declined), "{insn:?}");
         let mut bytes = Vec::new();
@@ -82,7 +80,7 @@ fn what_is_modelled_has_no_detail() {
     ];
     for (name, operands) in modelled {
         let insn = Instruction::new(0, name, operands);
-        assert_eq!(why(Settings::default(), &insn), Ok(None), "{insn:?}");
+        assert_eq!(why(&insn), Ok(None), "{insn:?}");
         assert_eq!(Lifter::default().lift(&insn), Ok(Lifted::Modelled));
     }
 }

@@ -78,11 +78,10 @@
 //!   `memory_operand_width`; 0 where there is none.
 //!
 //! The top of the stack may be written `st`, and places `st3`; that is
-//! `st(0)` and `st(3)`, as r2SMT's disassembler has it. So no record has a
-//! bare `st`, and it means the same in each [dialect](sleetgate::Dialect).
-//! An instruction with more than three operands, which no x87 instruction
-//! has, becomes one with a single operand of the kind 'other'; where its
-//! name is an x87 one, the notes say so.
+//! `st(0)` and `st(3)`, as r2SMT's disassembler has it. An instruction
+//! with more than three operands, which no x87 instruction has, becomes
+//! one with a single operand of the kind 'other'; where its name is an x87
+//! one, the notes say so.
 
 mod address;
 mod control;

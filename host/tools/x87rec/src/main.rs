@@ -15,8 +15,7 @@ x87rec: x87 code as records for x87lift
 
 Reads the text of `objdump -d -M intel` (or -dr, of an object file), of
 `llvm-objdump -d -M intel`, of gdb's `disassemble`, or lines `ADDRESS NAME
-OPERANDS`, and writes records. A bare st of the text is st(0) in a record, so
-that x87lift, x87show and x87smt read records alike in each dialect.
+OPERANDS`, and writes records.
 
     --names FILE         write what the records stand for, for x87show
     --function NAME      take one function, by its symbol or by 0xADDRESS

@@ -4,7 +4,7 @@
 use std::collections::BTreeSet;
 
 use notes::Notes;
-use sleetgate::{Dialect, Item, Settings, classify, read_record};
+use sleetgate::{Item, read_record};
 use x87rec::{Options, Take, translate};
 
 /// Real texts, which are damaged.
@@ -233,9 +233,8 @@ fn asked(random: &mut Random) -> Options {
     }
 }
 
-/// Whatever a text is, what is made of it is records, which mean the same in
-/// both dialects, and notes that are read back and are about lines of the
-/// text.
+/// Whatever a text is, what is made of it is records, and notes that are
+/// read back and are about lines of the text.
 fn holds(text: &str, options: &Options) -> bool {
     let Ok(translated) = translate(text, options) else {
         return false;
@@ -248,9 +247,6 @@ fn holds(text: &str, options: &Options) -> bool {
             panic!("{read:?} is no record");
         };
         assert_eq!(insn.address, address, "{text}");
-        let form = |dialect| classify(Settings { dialect }, &insn);
-        let [plain, bare] = [Dialect::Parenthesised, Dialect::Bare].map(form);
-        assert_eq!(plain, bare, "{insn:?}");
     }
     let words = text.split(|c: char| !c.is_ascii_hexdigit());
     let there: BTreeSet<u64> = words

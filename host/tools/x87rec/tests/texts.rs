@@ -243,7 +243,6 @@ fn operands_have_their_kinds() {
     assert_eq!(operands("int 0x80"), [Operand::Other]);
     assert_eq!(operands("fldenv [esp]"), [at_slot(0, 1, 1)]);
     assert_eq!(operands("fxch st3"), [Operand::register("st(3)")]);
-    assert_eq!(operands("FXCH ST"), [Operand::register("st(0)")]);
     assert_eq!(
         operands("ds fld QWORD PTR [rax]"),
         [Operand::memory(64, Place::Unknown)]

@@ -3,47 +3,45 @@
 
 use sleetgate::{Detail, Instruction, MOST_OPERANDS, Operand, Why, why};
 
-use crate::trace::Span;
-
 /// The widths of memory operands that some name takes.
 const WIDTHS: [u16; 4] = [16, 32, 64, 80];
 
-/// Why a record's instruction was declined.
-pub fn words(span: &Span, answer: Why) -> String {
+/// Why this instruction was declined.
+pub fn words(insn: &Instruction, answer: Why) -> String {
     match answer {
         Why::Form(Detail::UnknownName) => {
-            let name = plain(&span.insn.mnemonic);
+            let name = plain(&insn.mnemonic);
             format!("the lifter does not know the name {name}")
         }
-        Why::Form(Detail::OperandCount) => count(span),
-        Why::Form(Detail::OperandKind) => kinds(span),
-        Why::Form(Detail::Width) => width(span),
+        Why::Form(Detail::OperandCount) => count(insn),
+        Why::Form(Detail::OperandKind) => kinds(insn),
+        Why::Form(Detail::Width) => width(insn),
         Why::Form(Detail::UnknownAddress) | Why::Overflow => answer.to_string(),
     }
 }
 
 /// How many operands it has, and how many its name takes.
-fn count(span: &Span) -> String {
+fn count(insn: &Instruction) -> String {
     let taken = (0..=MOST_OPERANDS).filter(|&count| {
         let operands = vec![Operand::Other; count];
-        !declines(span, operands, Detail::OperandCount)
+        !declines(insn, operands, Detail::OperandCount)
     });
-    let (had, taken) = (span.insn.operands.len(), listed(taken));
+    let (had, taken) = (insn.operands.len(), listed(taken));
     let plural = if had == 1 { "" } else { "s" };
     format!("it has {had} operand{plural}, and its name takes {taken}")
 }
 
 /// The operands that its name does not take, where they stand.
-fn kinds(span: &Span) -> String {
-    let operands = span.insn.operands.iter().enumerate();
-    let offending = operands.filter(|&(at, _)| offends(span, at));
+fn kinds(insn: &Instruction) -> String {
+    let operands = insn.operands.iter().enumerate();
+    let offending = operands.filter(|&(at, _)| offends(insn, at));
     let named = offending.map(|(at, operand)| {
         let what = match operand {
             Operand::Register(text) => plain(text),
             Operand::Memory { .. } => "memory".to_owned(),
             Operand::Other => "what is read as neither register nor memory".to_owned(),
         };
-        match span.insn.operands.len() {
+        match insn.operands.len() {
             1 => what,
             _ => format!("{what} as operand {}", at + 1),
         }
@@ -57,20 +55,20 @@ fn kinds(span: &Span) -> String {
 
 /// Whether an operand is not taken where all others are `st(0)`, which
 /// every name with two operands takes.
-fn offends(span: &Span, at: usize) -> bool {
-    let mut operands = vec![Operand::st(0); span.insn.operands.len()];
-    operands[at].clone_from(&span.insn.operands[at]);
-    declines(span, operands, Detail::OperandKind)
+fn offends(insn: &Instruction, at: usize) -> bool {
+    let mut operands = vec![Operand::st(0); insn.operands.len()];
+    operands[at].clone_from(&insn.operands[at]);
+    declines(insn, operands, Detail::OperandKind)
 }
 
 /// The width of its memory operand, and those that its name takes.
-fn width(span: &Span) -> String {
-    let &[Operand::Memory { width, place }] = span.insn.operands.as_slice() else {
+fn width(insn: &Instruction) -> String {
+    let &[Operand::Memory { width, place }] = insn.operands.as_slice() else {
         return Detail::Width.to_string();
     };
     let taken = WIDTHS.into_iter().filter(|&bits| {
         let operands = vec![Operand::memory(bits, place)];
-        !declines(span, operands, Detail::Width)
+        !declines(insn, operands, Detail::Width)
     });
     let taken = listed(taken);
     match width {
@@ -82,9 +80,9 @@ fn width(span: &Span) -> String {
 }
 
 /// Whether the name is declined with these operands for that reason.
-fn declines(span: &Span, operands: Vec<Operand>, detail: Detail) -> bool {
-    let other = Instruction::new(span.address, span.insn.mnemonic.as_str(), operands);
-    why(span.settings, &other) == Ok(Some(detail))
+fn declines(insn: &Instruction, operands: Vec<Operand>, detail: Detail) -> bool {
+    let other = Instruction::new(insn.address, insn.mnemonic.as_str(), operands);
+    why(&other) == Ok(Some(detail))
 }
 
 /// A text of a record, which may have any characters, on one line.
@@ -104,7 +102,7 @@ fn listed<T: ToString>(all: impl Iterator<Item = T>) -> String {
 #[cfg(test)]
 mod tests {
     use super::WIDTHS;
-    use sleetgate::{Detail, Instruction, Operand, Place, Settings, why};
+    use sleetgate::{Detail, Instruction, Operand, Place, why};
 
     /// The names that the lifter knows.
     const NAMES: [&str; 56] = [
@@ -118,7 +116,7 @@ mod tests {
 
     fn detail(name: &str, operands: &[Operand]) -> Option<Detail> {
         let insn = Instruction::new(0, name, operands.to_vec());
-        why(Settings::default(), &insn).expect("it is not refused")
+        why(&insn).expect("it is not refused")
     }
 
     fn memory(width: u16) -> [Operand; 1] {

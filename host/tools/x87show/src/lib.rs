@@ -51,8 +51,6 @@
 //! A listing does not say which instruction made which node, nor what the
 //! stack was in between. So the records in the notes are lifted again by
 //! the proved library, and the listing is taken only if it is that lift.
-//! Both lifts have to read the records by the same
-//! [settings](sleetgate::Settings).
 
 mod build;
 mod declined;
@@ -63,7 +61,7 @@ mod terms;
 mod trace;
 
 use notes::Notes;
-use sleetgate::{Refusal, Settings};
+use sleetgate::Refusal;
 
 pub use listing::{Listing, Wrong};
 
@@ -75,30 +73,23 @@ pub struct Shown {
     pub refused: bool,
 }
 
-/// The readable text of a listing, with the notes of its records, which are
-/// read by these settings.
+/// The readable text of a listing, with the notes of its records.
 ///
 /// # Errors
 /// The first line that no listing has; or that a step before this one
-/// failed, or that the notes or the settings are of another run.
-pub fn show(settings: Settings, listing: &str, notes: Option<&Notes>) -> Result<Shown, Wrong> {
+/// failed, or that the notes are of another run.
+pub fn show(listing: &str, notes: Option<&Notes>) -> Result<Shown, Wrong> {
     if let Some(why) = notes.and_then(|notes| notes.failed.as_ref()) {
         return Err(Wrong::Step(format!("x87rec failed: {why}")));
     }
     let listing = Listing::read(listing)?;
-    let failed = match listing.refused {
-        Some((Refusal::EndsEarly, 0)) => Some("x87lift got no records: the step before it failed"),
-        Some((Refusal::Dialect, _)) => {
-            Some("x87lift lifted nothing: its --dialect is neither 0 nor 1")
-        }
-        _ => None,
-    };
-    if let Some(why) = failed {
+    if listing.refused == Some((Refusal::EndsEarly, 0)) {
+        let why = "x87lift got no records: the step before it failed";
         return Err(Wrong::Step(why.to_owned()));
     }
     let text = match notes {
         Some(notes) => {
-            let spans = trace::trace(settings, notes, &listing)?;
+            let spans = trace::trace(notes, &listing)?;
             print::with_notes(&listing, notes, &spans)
         }
         None => print::alone(&listing),

@@ -367,7 +367,7 @@ impl<'a> Page<'a> {
         };
         let words = match (answer, &record.why) {
             (Why::Form(_), Some(why)) => why.clone(),
-            _ => declined::words(span, answer),
+            _ => declined::words(&span.insn, answer),
         };
         let stored = match record.writes {
             None => String::new(),

@@ -4,7 +4,7 @@
 use std::ops::Range;
 
 use notes::Notes;
-use sleetgate::{Instruction, Item, Lifted, Lifter, Refusal, Settings, read_record};
+use sleetgate::{Instruction, Item, Lifted, Lifter, Refusal, read_record};
 
 use crate::Wrong;
 use crate::listing::{Listing, NODES, STATEMENTS};
@@ -13,9 +13,8 @@ use crate::listing::{Listing, NODES, STATEMENTS};
 #[derive(Debug, Clone, PartialEq, Eq)]
 pub struct Span {
     pub address: u64,
-    /// The record's instruction, and how it is read.
+    /// The record's instruction.
     pub insn: Instruction,
-    pub settings: Settings,
     pub nodes: Range<usize>,
     pub statements: Range<usize>,
     /// The stack behind it, the top first.
@@ -29,12 +28,12 @@ pub struct Span {
 /// What each record did, up to the one that was refused.
 ///
 /// # Errors
-/// Where the notes or the settings are not those of the listing.
-pub fn trace(settings: Settings, notes: &Notes, listing: &Listing) -> Result<Vec<Span>, Wrong> {
+/// Where the notes are not those of the listing.
+pub fn trace(notes: &Notes, listing: &Listing) -> Result<Vec<Span>, Wrong> {
     if !sleetgate_sys::at_hand() {
         return Err(Wrong::Step(sleetgate_sys::MISSING.to_owned()));
     }
-    let mut lifter = Lifter::with_capacity(NODES, STATEMENTS).with_settings(settings);
+    let mut lifter = Lifter::with_capacity(NODES, STATEMENTS);
     let mut spans = Vec::new();
     let mut refused = None;
     let mut place = 0;
@@ -55,11 +54,8 @@ pub fn trace(settings: Settings, notes: &Notes, listing: &Listing) -> Result<Vec
         refused,
     };
     if again != *listing {
-        let dialect = settings.dialect.number();
-        return Err(Wrong::Step(format!(
-            "the listing is not that of the records in the names file in dialect {dialect}: run the \
-             pipe again, with the same --dialect for x87lift and x87show"
-        )));
+        let why = "the listing is not that of the records in the names file: run the pipe again";
+        return Err(Wrong::Step(why.to_owned()));
     }
     Ok(spans)
 }
@@ -85,7 +81,6 @@ fn span(lifter: &mut Lifter, address: u64, bytes: &[u8]) -> Result<Result<Span, 
         stack: lifter.stack().to_vec(),
         declined: lifted != Lifted::Modelled,
         loads_image: insn.mnemonic == "fld" && insn.operands.iter().any(image),
-        settings: lifter.settings(),
         insn,
     }))
 }

@@ -7,7 +7,7 @@ use std::os::unix::ffi::OsStrExt;
 use std::path::PathBuf;
 use std::process::{Command, Output, Stdio};
 
-use sleetgate::{Dialect, Instruction, Lifter, Operand, Settings, write_record};
+use sleetgate::{Instruction, Lifter, Operand, write_record};
 
 /// The listing of `fld1`, `fchs`, as the program prints it.
 const LISTING: &str =
@@ -75,10 +75,7 @@ fn told(words: &[&str], input: &str) -> (Option<i32>, String, String) {
 fn help_and_version_go_to_standard_output() {
     let (status, out, err) = told(&["--help"], "");
     assert_eq!((status, err.as_str()), (Some(0), ""));
-    assert!(
-        out.contains("--names FILE") && out.contains("--dialect D"),
-        "{out}"
-    );
+    assert!(out.contains("--names FILE"), "{out}");
     let (status, out, err) = told(&["--version"], "");
     assert_eq!((status, err.as_str()), (Some(0), ""));
     assert_eq!(out, concat!("x87show ", env!("CARGO_PKG_VERSION"), "\n"));
@@ -86,24 +83,16 @@ fn help_and_version_go_to_standard_output() {
 
 #[test]
 fn wrong_arguments_end_with_2() {
-    let wrong: [(&[&str], &str); 12] = [
-        (&["--nosuch"], "there is no option --nosuch"),
-        (&["listing"], "there is no option listing"),
-        (&["--help", "x"], "there is no option --help"),
-        (&["--names"], "--names wants a value"),
-        (&["--names", "a", "b"], "there is no option b"),
-        (&["--names", "a", "--names", "a"], "--names is given twice"),
-        (&["--dialect"], "--dialect wants a value"),
-        (&["--names", "a", "--dialect"], "--dialect wants a value"),
-        (&["--dialect", "2"], "--dialect wants 0 or 1, not 2"),
-        (&["--dialect", "01"], "--dialect wants 0 or 1, not 01"),
-        (&["--dialect", ""], "--dialect wants 0 or 1, not "),
-        (&["--dialect", "1", "--dialect", "1"], "given twice"),
+    let wrong: [&[&str]; 4] = [
+        &["--nosuch"],
+        &["listing"],
+        &["--names"],
+        &["--names", "a", "b"],
     ];
-    for (words, why) in wrong {
+    for words in wrong {
         let (status, out, err) = told(words, LISTING);
         assert_eq!((status, out.as_str()), (Some(2), ""), "{words:?}");
-        assert!(err.contains(why) && err.contains("--help"), "{err}");
+        assert!(err.contains("--help"), "{err}");
     }
 }
 
@@ -125,10 +114,9 @@ fn each_line_has_its_address_with_notes() {
     let expected = "-- all is assumed\n12: -- the end\n12: st(0) = -1.0\n\
                     12: -- below, the stack is as it was on entry\n";
     assert_eq!(out, expected);
-    let alone = told(&[], LISTING);
-    assert_eq!(alone.0, Some(0));
-    assert!(alone.1.starts_with("-- without --names: "), "{}", alone.1);
-    assert_eq!(told(&["--dialect", "1"], LISTING), alone);
+    let (status, out, _) = told(&[], LISTING);
+    assert_eq!(status, Some(0));
+    assert!(out.starts_with("-- without --names: "), "{out}");
 }
 
 #[test]
@@ -184,57 +172,6 @@ fn notes_of_another_run_are_refused() {
     let (status, out, err) = told(&["--names", &names], twice);
     assert_eq!((status, out.as_str()), (Some(1), ""));
     assert!(err.contains("run the pipe again"), "{err}");
-}
-
-/// The stack of `fld1` and `fxch st`, which dialect 0 forgets.
-#[test]
-fn a_listing_is_shown_in_its_own_dialect_alone() {
-    let texts = ["fld1", "fxch st"];
-    let records: String = (0x10..)
-        .zip(texts)
-        .map(|(at, text)| record(at, text))
-        .collect();
-    let names = file(
-        "dialect",
-        &format!("sleetgate notes 1\n{records}stack 11 the end\nend\n"),
-    );
-    let lifted = |dialect| {
-        let mut lifter = Lifter::default().with_settings(Settings { dialect });
-        for (address, text) in (0x10..).zip(texts) {
-            let lifted = lifter.lift(&instruction(address, text));
-            lifted.expect("there is room");
-        }
-        listing(&lifter)
-    };
-    let (plain, bare) = (lifted(Dialect::Parenthesised), lifted(Dialect::Bare));
-    let declined = "11: -- fxch st: its name does not take st: the stack is forgotten here\n";
-    let names = ["--names", names.as_str()];
-    let said: [(&[&str], &str, &str, &str); 3] = [
-        (&[], &plain, &bare, declined),
-        (&["--dialect", "0"], &plain, &bare, declined),
-        (&["--dialect", "1"], &bare, &plain, "11: st(0) = 1.0\n"),
-    ];
-    for (dialect, own, other, shown) in said {
-        for words in [[dialect, &names].concat(), [&names, dialect].concat()] {
-            let (status, out, err) = told(&words, own);
-            assert_eq!((status, err.as_str()), (Some(0), ""), "{words:?}");
-            assert!(out.contains(shown), "{out}");
-            let (status, out, err) = told(&words, other);
-            assert_eq!((status, out.as_str()), (Some(1), ""), "{words:?}");
-            assert!(err.contains("with the same --dialect"), "{err}");
-        }
-    }
-}
-
-/// What `x87lift` lists where it was given no dialect.
-#[test]
-fn a_listing_of_no_dialect_is_told() {
-    let names = file("no-dialect", &notes());
-    for words in [&["--names", names.as_str()][..], &[]] {
-        let (status, out, err) = told(words, "d 0 0 0\nr 33 0\n");
-        assert_eq!((status, out.as_str()), (Some(1), ""), "{words:?}");
-        assert!(err.contains("its --dialect is neither 0 nor 1"), "{err}");
-    }
 }
 
 #[test]

@@ -1,8 +1,8 @@
 //! Listings and their readable texts.
 
 use notes::{Event, Notes, Record, What};
-use sleetgate::{Dialect, Instruction, Lifter, Operand, Place, Settings, write_record};
-use x87show::Wrong;
+use sleetgate::{Instruction, Lifter, Operand, Place, write_record};
+use x87show::{Wrong, show};
 
 /// The listing of some instructions, as the program prints it.
 fn listing(lifter: &Lifter, refused: &str) -> String {
@@ -21,11 +21,6 @@ fn listing(lifter: &Lifter, refused: &str) -> String {
     text.push('d');
     text.extend(words.map(|word| format!(" {word}")));
     text + "\n" + refused
-}
-
-/// The readable text of a listing in dialect 0.
-fn show(listing: &str, notes: Option<&Notes>) -> Result<x87show::Shown, Wrong> {
-    x87show::show(Settings::default(), listing, notes)
 }
 
 /// A register, memory as `WIDTH@ADDRESS`, where `?` is an address that is
@@ -179,14 +174,10 @@ fn declines_are_said_in_words() {
     assert!(shown.refused && shown.text.ends_with(end), "{}", shown.text);
 }
 
-/// What is said of a decline in dialect 0, with notes of a record that give
-/// this reason.
+/// What is said of a decline, with notes of a record that give this
+/// reason.
 fn reason(insn: &Instruction, why: Option<&str>) -> String {
-    reason_by(Settings::default(), insn, why)
-}
-
-fn reason_by(settings: Settings, insn: &Instruction, why: Option<&str>) -> String {
-    let mut lifter = Lifter::default().with_settings(settings);
+    let mut lifter = Lifter::default();
     lifter.lift(insn).expect("there is room");
     let mut bytes = Vec::new();
     write_record(insn, &mut bytes).expect("it has a record");
@@ -204,8 +195,7 @@ fn reason_by(settings: Settings, insn: &Instruction, why: Option<&str>) -> Strin
         events: vec![event],
         ..Notes::default()
     };
-    let shown = x87show::show(settings, &listing(&lifter, ""), Some(&notes));
-    let shown = shown.expect("it is a listing");
+    let shown = show(&listing(&lifter, ""), Some(&notes)).expect("it is a listing");
     let said = shown.text.strip_prefix("10: -- this: ");
     let said = said.and_then(|said| said.strip_suffix(": the stack is forgotten here\n"));
     said.expect("it is declined").to_owned()
@@ -270,19 +260,6 @@ fn a_decline_says_what_the_name_does_not_take() {
     for (line, words) in DECLINES {
         assert_eq!(reason(&instruction(0x10, line), None), words, "{line}");
     }
-}
-
-/// What a name takes is asked in the dialect of the listing.
-#[test]
-fn a_decline_is_told_in_its_dialect() {
-    let line = instruction(0x10, "fcmovb st(1) st");
-    let both = "its name does not take st(1) as operand 1, nor st as operand 2";
-    assert_eq!(reason(&line, None), both);
-    let bare = Settings {
-        dialect: Dialect::Bare,
-    };
-    let first = "its name does not take st(1) as operand 1";
-    assert_eq!(reason_by(bare, &line, None), first);
 }
 
 #[test]
@@ -363,10 +340,6 @@ fn a_decline_has_an_answer_and_a_detail_of_its_own() {
 #[test]
 fn a_failed_step_is_not_an_empty_stack() {
     let why = |listing: &str| show(listing, None).expect_err("a step failed").to_string();
-    assert_eq!(
-        why("d 0 0 0\nr 33 0\n"),
-        "x87lift lifted nothing: its --dialect is neither 0 nor 1"
-    );
     assert_eq!(
         why("d 0 0 0\nr 12 0\n"),
         "x87lift got no records: the step before it failed"

@@ -20,7 +20,7 @@ mod words;
 
 use std::fmt;
 
-use sleetgate::{Refusal, RefusedRecord, Settings, Statement, smt_lib};
+use sleetgate::{Refusal, RefusedRecord, Statement, smt_lib};
 
 pub use listing::listing;
 use run::Run;
@@ -127,16 +127,15 @@ impl fmt::Display for Wrong {
 
 impl std::error::Error for Wrong {}
 
-/// The formula of what is asked for, of records that are read by these
-/// settings.
+/// The formula of what is asked for.
 ///
 /// # Errors
 /// Why there is none.
-pub fn formula(settings: Settings, records: &[u8], root: Root) -> Result<Formula, Wrong> {
+pub fn formula(records: &[u8], root: Root) -> Result<Formula, Wrong> {
     if !sleetgate_sys::at_hand() {
         return Err(Wrong::Library);
     }
-    let run = Run::of(settings, records)?;
+    let run = Run::of(records)?;
     let root = node(&run, root)?;
     let text = smt_lib::write(run.nodes(), root).map_err(|refusal| Wrong::Text {
         refusal,

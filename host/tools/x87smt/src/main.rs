@@ -5,16 +5,15 @@ use std::fs;
 use std::io::{self, Read, Write};
 use std::process::ExitCode;
 
-use sleetgate::{Dialect, Settings};
 use x87smt::{Root, formula, listing};
 
 /// What `--help` prints.
 const HELP: &str = "\
 x87smt: one formula of x87 code as SMT-LIB text
 
-    x87smt --place N [--dialect D] < RECORDS > TEXT
-    x87smt --statement N [--dialect D] < RECORDS > TEXT
-    x87smt --node N [--dialect D] < RECORDS > TEXT
+    x87smt --place N < RECORDS > TEXT
+    x87smt --statement N < RECORDS > TEXT
+    x87smt --node N < RECORDS > TEXT
     x87smt --read [FILE] < TEXT
 
 Reads the records that x87lift reads, as x87rec writes them, lifts them and
@@ -25,8 +24,6 @@ writes what one node needs as declarations, definitions and assertions.
     --statement N        what statement N stores or sets, as x87lift numbers
                          the statements
     --node N             node N, as x87lift numbers the nodes
-    --dialect D          read the records in dialect 0 or 1, in 0 without this;
-                         in dialect 1 a bare st is st(0)
     --read [FILE]        read such a text, from FILE or from standard input, and
                          list its nodes as x87lift does, numbered from 0, the
                          root last; where it is none, say the line and the byte
@@ -44,8 +41,7 @@ are wrong, 2 for a wrong argument.
 /// What is asked for.
 enum Asked {
     Print(String),
-    /// The text of a root, of records that are read by these settings.
-    Text(Settings, Root),
+    Text(Root),
     /// The nodes of a text in a file, or on standard input.
     Nodes(Option<String>),
 }
@@ -57,11 +53,11 @@ fn main() -> ExitCode {
         .collect();
     let words: Vec<&str> = words.iter().map(String::as_str).collect();
     let written = match asked(&words) {
-        Ok(Asked::Print(text)) => write(&text),
-        Ok(Asked::Text(settings, root)) => run(settings, root),
-        Ok(Asked::Nodes(file)) => read(file.as_deref()),
-        Err(why) => {
-            say(&format!("{why}; x87smt --help says more"));
+        Some(Asked::Print(text)) => write(&text),
+        Some(Asked::Text(root)) => run(root),
+        Some(Asked::Nodes(file)) => read(file.as_deref()),
+        None => {
+            say("wrong arguments; x87smt --help says more");
             return ExitCode::from(2);
         }
     };
@@ -74,56 +70,22 @@ fn main() -> ExitCode {
     }
 }
 
-/// What the arguments ask for.
-fn asked(words: &[&str]) -> Result<Asked, String> {
-    match words {
-        ["--help"] => Ok(Asked::Print(HELP.to_owned())),
+/// What the arguments ask for, if they are right.
+fn asked(words: &[&str]) -> Option<Asked> {
+    let root = match words {
+        ["--help"] => return Some(Asked::Print(HELP.to_owned())),
         ["--version"] => {
             let version = format!("x87smt {}\n", env!("CARGO_PKG_VERSION"));
-            Ok(Asked::Print(version))
+            return Some(Asked::Print(version));
         }
-        ["--read"] => Ok(Asked::Nodes(None)),
-        ["--read", file] => Ok(Asked::Nodes(Some((*file).to_owned()))),
-        _ => text(words),
-    }
-}
-
-/// The text that options ask for, each with its value.
-fn text(words: &[&str]) -> Result<Asked, String> {
-    let (mut root, mut dialect) = (None, None);
-    for pair in words.chunks(2) {
-        let word = pair[0];
-        let option = match word {
-            "--place" | "--statement" | "--node" => &mut root,
-            "--dialect" => &mut dialect,
-            _ => return Err(format!("there is no option {word}")),
-        };
-        let value = pair.get(1).ok_or_else(|| format!("{word} wants a value"))?;
-        if let Some((before, _)) = option.replace((word, *value)) {
-            return Err(format!("{word} cannot follow {before}"));
-        }
-    }
-    let (word, value) = root.ok_or("--place, --statement or --node is missing")?;
-    let root = rooted(word, value)?;
-    let dialect = dialect.map_or(Ok(Dialect::default()), |(_, value)| named(value))?;
-    Ok(Asked::Text(Settings { dialect }, root))
-}
-
-/// What an option with this value asks for.
-fn rooted(word: &str, value: &str) -> Result<Root, String> {
-    let number = value.parse();
-    let number = number.map_err(|_| format!("{word} wants a number, not {value}"))?;
-    Ok(match word {
-        "--place" => Root::Place(number),
-        "--statement" => Root::Statement(number),
-        _ => Root::Node(number),
-    })
-}
-
-/// The dialect of a value of `--dialect`.
-fn named(value: &str) -> Result<Dialect, String> {
-    let dialect = value.parse();
-    dialect.map_err(|_| format!("--dialect wants 0 or 1, not {value}"))
+        ["--read"] => return Some(Asked::Nodes(None)),
+        ["--read", file] => return Some(Asked::Nodes(Some((*file).to_owned()))),
+        ["--place", number] => Root::Place(number.parse().ok()?),
+        ["--statement", number] => Root::Statement(number.parse().ok()?),
+        ["--node", number] => Root::Node(number.parse().ok()?),
+        _ => return None,
+    };
+    Some(Asked::Text(root))
 }
 
 /// Say something on standard error; where that cannot be, the status tells.
@@ -150,9 +112,9 @@ fn read(file: Option<&str>) -> Result<(), String> {
     write(&listing.map_err(|wrong| wrong.to_string())?)
 }
 
-fn run(settings: Settings, root: Root) -> Result<(), String> {
+fn run(root: Root) -> Result<(), String> {
     let records = input()?;
-    let formula = formula(settings, &records, root).map_err(|wrong| wrong.to_string())?;
+    let formula = formula(&records, root).map_err(|wrong| wrong.to_string())?;
     write(&formula.text)?;
     formula.words.iter().for_each(|words| say(words));
     Ok(())

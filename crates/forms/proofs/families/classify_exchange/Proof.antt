@@ -28,7 +28,7 @@ returns-3 : tie.Need-returns-3
 returns-3 c = simp (c.before.before.before.before.before.if2.true, ← c.before.before.before.slot-index.ensures, c.before.index.given.1)
 
 returns-4 : tie.Need-returns-4
-returns-4 c = sym (by_count (exchange_of c.before.before.args.settings.dialect) Declined c.before.before.args.count c.before.before.args.t1 (λ e. absurd (c.before.if1.false e)) (λ e. absurd (c.if2.false e)) (λ e. refl) refl)
+returns-4 c = sym (by_count exchange_of Declined c.before.before.args.count c.before.before.args.t1 (λ e. absurd (c.before.if1.false e)) (λ e. absurd (c.if2.false e)) (λ e. refl) refl)
 
 pub classify-exchange-spec : {M : Type 1} → statement M
 classify-exchange-spec =

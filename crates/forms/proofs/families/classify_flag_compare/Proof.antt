@@ -25,7 +25,7 @@ returns-2 : tie.Need-returns-2
 returns-2 c = simp c.before.before.if2.true c.compare-flags2.ensures
 
 returns-3 : tie.Need-returns-3
-returns-3 c = sym (by_count (flag_compare_of c.before.before.args.settings.dialect c.before.before.args.pop) Declined c.before.before.args.count c.before.before.args.t1 (λ e. refl) (λ e. absurd (c.before.if1.false e)) (λ e. absurd (c.if2.false e)) refl)
+returns-3 c = sym (by_count (flag_compare_of c.before.before.args.pop) Declined c.before.before.args.count c.before.before.args.t1 (λ e. refl) (λ e. absurd (c.before.if1.false e)) (λ e. absurd (c.if2.false e)) refl)
 
 pub classify-flag-compare-spec : {M : Type 1} → statement M
 classify-flag-compare-spec =

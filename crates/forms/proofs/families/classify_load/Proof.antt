@@ -16,7 +16,7 @@ returns : tie.Need-returns
 returns c = simp c.before.before.if1.true c.load.ensures
 
 returns-2 : tie.Need-returns-2
-returns-2 c = sym (by_count (load_of c.before.args.settings.dialect c.before.args.format c.before.args.widths) Declined c.before.args.count c.before.args.t1 (λ e. refl) (λ e. absurd (c.if1.false e)) (λ e. refl) refl)
+returns-2 c = sym (by_count (load_of c.before.args.format c.before.args.widths) Declined c.before.args.count c.before.args.t1 (λ e. refl) (λ e. absurd (c.if1.false e)) (λ e. refl) refl)
 
 pub classify-load-spec : {M : Type 1} → statement M
 classify-load-spec = tie.close (tie.spec array-copy-out-o load-requires returns returns-2)

@@ -19,7 +19,7 @@ returns-2 : tie.Need-returns-2
 returns-2 c = simp c.before.before.if2.true c.compare.ensures
 
 returns-3 : tie.Need-returns-3
-returns-3 c = sym (by_count (status_compare_of c.before.before.args.settings.dialect c.before.before.args.pops c.before.before.args.memory) Declined c.before.before.args.count c.before.before.args.t1 (λ e. absurd (c.before.if1.false e)) (λ e. absurd (c.if2.false e)) (λ e. refl) refl)
+returns-3 c = sym (by_count (status_compare_of c.before.before.args.pops c.before.before.args.memory) Declined c.before.before.args.count c.before.before.args.t1 (λ e. absurd (c.before.if1.false e)) (λ e. absurd (c.if2.false e)) (λ e. refl) refl)
 
 pub classify-status-compare-spec : {M : Type 1} → statement M
 classify-status-compare-spec =

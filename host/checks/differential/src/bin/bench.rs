@@ -39,7 +39,7 @@ mod measured {
     use differential::steps::step;
     use differential::work::{self, Lists, ROWS, depth};
     use plain::state::{NODES, STATE, STATEMENTS};
-    use plain::{FLAT, Instruction, MODELLED, Settings};
+    use plain::{FLAT, Instruction, MODELLED};
     use r2smt_common::program;
 
     /// Sequences of each work.
@@ -61,7 +61,6 @@ mod measured {
 
     impl Work {
         fn new(sequences: &[Vec<Instruction>]) -> Self {
-            let spelt = |insn| spelt(Settings::default(), insn);
             let rust = sequences.iter().map(|s| s.iter().map(spelt).collect());
             let rattle = sequences
                 .iter()
@@ -157,7 +156,7 @@ mod measured {
         let mut sequence = Vec::new();
         loop {
             let insn = profile.next(&grid, rng, depth(&state));
-            let next = step(Settings::default(), &state, &insn);
+            let next = step(&state, &insn);
             if next.state[NODES] > ROWS as u64 || next.state[STATEMENTS] > ROWS as u64 {
                 return sequence;
             }

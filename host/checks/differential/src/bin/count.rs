@@ -38,7 +38,7 @@ mod counted {
     use std::process::Command;
 
     use differential::lists;
-    use differential::work::{LENT, Lists, ROWS, WORKS, sequences};
+    use differential::work::{Lists, ROWS, WORKS, sequences};
     use plain::{FLAT, Instruction};
     use sleetgate_sys::{DETAIL, EFFECT, FORM, NAMED, READ, VALUE};
 
@@ -134,9 +134,9 @@ mod counted {
 
     fn of_flat(call: &str, flat: &[u8; FLAT]) {
         let answer = match call {
-            "x87_classify" => sleetgate_sys::classify(&LENT, black_box(flat), &mut [0; FORM]),
-            "x87_why" => sleetgate_sys::why(&LENT, black_box(flat), &mut [0; DETAIL]),
-            "x87_effect" => sleetgate_sys::effect(&LENT, black_box(flat), &mut [0; EFFECT]),
+            "x87_classify" => sleetgate_sys::classify(black_box(flat), &mut [0; FORM]),
+            "x87_why" => sleetgate_sys::why(black_box(flat), &mut [0; DETAIL]),
+            "x87_effect" => sleetgate_sys::effect(black_box(flat), &mut [0; EFFECT]),
             _ => panic!("no such call: {call}"),
         };
         assert_eq!(answer, 0);

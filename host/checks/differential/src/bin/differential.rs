@@ -24,7 +24,7 @@ const USAGE: &str = "differential classify|records|lift|record-lifts|checks|z3|c
                      text-reads|every-text|text-z3|text-cvc5|x87lift [SIZE] [SEED]";
 
 /// Sizes of the full runs.
-const CLASSIFY: u64 = 8_000_000;
+const CLASSIFY: u64 = 3_500_000;
 const RECORDS: u64 = 1_500_000;
 const SEQUENCES: u64 = 200_000;
 const RECORD_LIFTS: u64 = 1_500_000;

@@ -42,18 +42,18 @@ impl Echo {
 }
 
 impl Subject for Echo {
-    fn classify(&self, settings: &[u8], flat: &[u8], out: &mut [u64]) -> u32 {
-        let answer = expect::classify(settings, &self.asked(flat), out.len());
+    fn classify(&self, flat: &[u8], out: &mut [u64]) -> u32 {
+        let answer = expect::classify(&self.asked(flat), out.len());
         self.told(&answer, out)
     }
 
-    fn why(&self, settings: &[u8], flat: &[u8], out: &mut [u64]) -> u32 {
-        let answer = expect::why(settings, &self.asked(flat), out.len());
+    fn why(&self, flat: &[u8], out: &mut [u64]) -> u32 {
+        let answer = expect::why(&self.asked(flat), out.len());
         self.told(&answer, out)
     }
 
-    fn effect(&self, settings: &[u8], flat: &[u8], out: &mut [u64]) -> u32 {
-        let answer = expect::effect(settings, &self.asked(flat), out.len());
+    fn effect(&self, flat: &[u8], out: &mut [u64]) -> u32 {
+        let answer = expect::effect(&self.asked(flat), out.len());
         self.told(&answer, out)
     }
 
@@ -78,7 +78,6 @@ impl Subject for Echo {
 
     fn lift(
         &self,
-        settings: &[u8],
         flat: &[u8],
         state: &mut [u64],
         nodes: &mut [u64],
@@ -86,14 +85,7 @@ impl Subject for Echo {
         out: &mut [u64],
     ) -> u32 {
         let seen = self.asked(flat);
-        let expected = lift::expect(
-            settings,
-            &seen,
-            state,
-            nodes.len(),
-            statements.len(),
-            out.len(),
-        );
+        let expected = lift::expect(&seen, state, nodes.len(), statements.len(), out.len());
         expected.tell(out);
         let Some(mut step) = expected.step else {
             return expected.number;
