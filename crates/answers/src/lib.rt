@@ -1,4 +1,5 @@
 // The numbers of answers and forms, as the definitions of the crates below give them: what goes outside goes through these.
+#![tactic(auto)]
 pub mod smt;
 pub mod values;
 

@@ -1,4 +1,5 @@
 // The check that each node of a list has a sort, and the values of the nodes, into a lent column of two words a node, low first.
+#![tactic(auto)]
 pub mod table;
 
 ghost use Rattle.std.specs.Prelude.{◌≡◌, cond, not, ◌&&◌, ◌++◌, ◌+◌, ◌*◌, ◌%◌, ◌≤◌, ◌<◌, ◌^◌, eqb, ltb, length, get_or, drop};
@@ -17,7 +18,7 @@ use sorts::Verdict;
 use words::Wide;
 
 // What an evaluation says.
-#[derive(Drop)]
+#[derive(Clone, Copy)]
 pub enum Outcome {
     Done,
     // The first node without a sort.

@@ -1,4 +1,5 @@
 // Instructions with decoded operands, what each does to the x87 stack, and what it touches besides.
+#![tactic(auto)]
 pub mod families;
 pub mod names;
 
@@ -11,7 +12,7 @@ ghost use Rattle.forms.specs.Effects.{stack_of, status_of, touched_of, effect_of
 use texts::Text;
 
 // An operand: kind 0 is a register (its text), 1 memory (its width, 0 where unknown; whether its address is known; the address number; the slot number, 0 for none), 2 any other. Fields of another kind are ignored.
-#[derive(Drop)]
+#[derive(Clone, Copy)]
 pub struct Operand {
     pub kind: u8,
     pub text: Text,
@@ -22,7 +23,7 @@ pub struct Operand {
 }
 
 // An instruction: the operands past the count are ignored.
-#[derive(Drop)]
+#[derive(Clone, Copy)]
 pub struct Instruction {
     pub operands: [Operand; 3],
     pub count: usize,
@@ -31,7 +32,7 @@ pub struct Instruction {
 }
 
 // The arithmetic that x87 performs on its stack.
-#[derive(Drop)]
+#[derive(Clone, Copy)]
 pub enum X87Arith {
     Add,
     Sub,
@@ -40,28 +41,28 @@ pub enum X87Arith {
 }
 
 // The value format that a memory operand carries: IEEE binary, or a two's complement integer.
-#[derive(Drop)]
+#[derive(Clone, Copy)]
 pub enum MemFormat {
     Float,
     Integer,
 }
 
 // How a conversion rounds.
-#[derive(Drop)]
+#[derive(Clone, Copy)]
 pub enum RoundingMode {
     NearestTiesEven,
     TowardZero,
 }
 
 // Where the second input of an arithmetic instruction or of a compare comes from.
-#[derive(Drop)]
+#[derive(Clone, Copy)]
 pub enum ArithSrc {
     Slot(u32),
     Memory { width: u16, format: MemFormat },
 }
 
 // The condition that a conditional move tests.
-#[derive(Drop)]
+#[derive(Clone, Copy)]
 pub enum X87Condition {
     Below,
     Equal,
@@ -74,7 +75,7 @@ pub enum X87Condition {
 }
 
 // Operations on the top of the stack in place.
-#[derive(Drop)]
+#[derive(Clone, Copy)]
 pub enum UnaryOp {
     Abs,
     Chs,
@@ -83,7 +84,7 @@ pub enum UnaryOp {
 }
 
 // What an instruction does to the stack. A constant's pattern stands in two words.
-#[derive(Drop)]
+#[derive(Clone, Copy)]
 pub enum Form {
     PushConst {
         low: u64,
@@ -129,7 +130,7 @@ pub enum Form {
 }
 
 // The memory widths that a family takes, by the Rust's tables.
-#[derive(Drop)]
+#[derive(Clone, Copy)]
 pub enum Widths {
     FloatWidths,
     FloatShort,
@@ -140,14 +141,14 @@ pub enum Widths {
 }
 
 // The width of a memory operand that a family takes.
-#[derive(Drop)]
+#[derive(Clone, Copy)]
 pub enum Width {
     Bits(u16),
     Unmodelled,
 }
 
 // The fixed part of a store: what the destination holds, its widths, whether it pops, how it rounds.
-#[derive(Drop)]
+#[derive(Clone, Copy)]
 pub struct StoreSpec {
     pub format: MemFormat,
     pub widths: Widths,
@@ -156,14 +157,14 @@ pub struct StoreSpec {
 }
 
 // Whether a compare has a memory form.
-#[derive(Drop)]
+#[derive(Clone, Copy)]
 pub enum MemorySource {
     Allowed,
     Forbidden,
 }
 
 // What a name stands for: the operands that it takes, and what it makes of them.
-#[derive(Drop)]
+#[derive(Clone, Copy)]
 pub enum Family {
     Plain(Form),
     Exchange,
@@ -198,7 +199,7 @@ pub enum Family {
 }
 
 // The one operand that a name takes, if any: a place, a place or memory, memory, `ax` or memory.
-#[derive(Drop)]
+#[derive(Clone, Copy)]
 pub enum One {
     Nothing,
     Place,
@@ -208,7 +209,7 @@ pub enum One {
 }
 
 // The two operands that a name takes, if any: anything and a place, place 0 and a place, two places.
-#[derive(Drop)]
+#[derive(Clone, Copy)]
 pub enum Two {
     Nothing,
     Second,
@@ -217,7 +218,7 @@ pub enum Two {
 }
 
 // What a name takes: whether there is such a name, whether it stands alone, and the operands that it takes.
-#[derive(Drop)]
+#[derive(Clone, Copy)]
 pub struct Shape {
     pub known: bool,
     pub alone: bool,
@@ -226,7 +227,7 @@ pub struct Shape {
 }
 
 // The answer of `classify`: a form, the Rust's decline, or the refusal of a text (3) or of an operand (4).
-#[derive(Drop)]
+#[derive(Clone, Copy)]
 pub enum Classified {
     Modelled(Form),
     Declined,
@@ -235,7 +236,7 @@ pub enum Classified {
 }
 
 // What an instruction touches beyond the registers that its operands name.
-#[derive(Drop)]
+#[derive(Clone, Copy)]
 pub struct Effect {
     pub defines_stack: bool,
     pub defines_status: bool,
@@ -247,7 +248,7 @@ pub struct Effect {
 }
 
 // The answer of `x87_effect`, as that of `classify`.
-#[derive(Drop)]
+#[derive(Clone, Copy)]
 pub enum Affected {
     Modelled(Effect),
     Declined,
@@ -277,7 +278,7 @@ fn spelled(o: Operand) -> bool
 }
 
 // Whether every operand below the count is in range, and every register text among them one.
-#[derive(Drop)]
+#[derive(Clone, Copy)]
 struct Fit {
     ranged: bool,
     spelled: bool,

@@ -1,4 +1,5 @@
 // The 80-bit image of a 79-bit pattern, on ten lent bytes, low byte first.
+#![tactic(auto)]
 ghost use Rattle.std.specs.Prelude.{◌≡◌, ◌++◌, ℕ, ◌≤◌, ◌<◌, ◌%◌, ◌^◌, length, take, drop};
 ghost use Rattle.words.specs.Wide.{val, wide_of};
 ghost use Rattle.words.specs.Bytes.{little_endian, bytes_of};
@@ -8,7 +9,7 @@ ghost use Rattle.image.specs.Answers.{read_of, write_of, image_after};
 use words::Wide;
 
 // What reading an image finds.
-#[derive(Drop)]
+#[derive(Clone, Copy)]
 pub enum Found {
     Pattern(Wide),
     // The free pattern is over 79 bits.
@@ -18,7 +19,7 @@ pub enum Found {
 }
 
 // What writing a pattern says.
-#[derive(Drop)]
+#[derive(Clone, Copy)]
 pub enum Written {
     Done,
     // The pattern is over 79 bits.

@@ -1,4 +1,5 @@
 // The lift of x87 instructions: `apply_x87`, and the one call `lift`.
+#![tactic(auto)]
 ghost use Rattle.std.specs.Prelude.{◌≡◌, ◌+◌, leb};
 ghost use Rattle.lists.specs.Rows.{room_of};
 ghost use Rattle.lists.specs.Steps.{Does};
@@ -15,7 +16,7 @@ const MOST_NODES: u32 = 46;
 const MOST_STATEMENTS: u32 = 5;
 
 // The state after an instruction, the answer's number, and beside answer 1 the detail of the decline.
-#[derive(Drop)]
+#[derive(Clone, Copy)]
 pub struct Lifted {
     pub state: State,
     pub answer: u32,

@@ -1,4 +1,5 @@
 // The run over a whole input, and the listing of what it came to.
+#![tactic(auto)]
 mod print;
 
 ghost use Rattle.std.specs.Prelude.{◌≡◌, length};
@@ -10,7 +11,7 @@ use lists::State;
 use records::{Outcome, Taken};
 
 // Where a run stopped: its state, and a refusal's number and place, 0 and 0 where there is none.
-#[derive(Drop)]
+#[derive(Clone, Copy)]
 pub struct Stop {
     pub state: State,
     pub number: u32,
@@ -18,14 +19,14 @@ pub struct Stop {
 }
 
 // The number of bytes that were written, or that they do not fit.
-#[derive(Drop)]
+#[derive(Clone, Copy)]
 pub enum Listed {
     Bytes(usize),
     Short,
 }
 
 // What a run has come to: where it stops if it stops here, and whether it goes on.
-#[derive(Drop)]
+#[derive(Clone, Copy)]
 struct Progress {
     stop: Stop,
     on: bool,

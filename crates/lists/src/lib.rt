@@ -1,4 +1,5 @@
 // Rows of four words in lent lists, the state of a lift, and its stack.
+#![tactic(auto)]
 ghost use Rattle.std.specs.Prelude.{◌≡◌, [], ◌∷◌, ◌-◌, ◌<◌};
 ghost use Rattle.lists.specs.Rows.{row, wrote, up, room_of};
 ghost use Rattle.lists.specs.Steps.{Did, Told};
@@ -7,7 +8,7 @@ ghost use Rattle.lists.specs.Stack.{fresh, havoc_of, grown, bottom_of, ensure_of
 ghost use Rattle.lists.specs.Valid.{sound_of, all_sound, valid_of};
 
 // The state of a lift: the stack's places, of which place 0 is the top and the first `depth` are used, and the counts of what was added.
-#[derive(Drop)]
+#[derive(Clone, Copy)]
 pub struct State {
     pub slots: [u32; 8],
     pub depth: u32,
@@ -18,14 +19,14 @@ pub struct State {
 }
 
 // A state, and the node that the step before it names.
-#[derive(Drop)]
+#[derive(Clone, Copy)]
 pub struct Step {
     pub state: State,
     pub at: u32,
 }
 
 // The state after a push, and whether it found the stack full.
-#[derive(Drop)]
+#[derive(Clone, Copy)]
 pub struct Pushed {
     pub state: State,
     pub overflow: bool,

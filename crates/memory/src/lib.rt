@@ -1,4 +1,5 @@
 // Loads and stores of an instruction's memory operand, and its second input.
+#![tactic(auto)]
 ghost use Rattle.std.specs.Prelude.{◌≡◌};
 ghost use Rattle.lists.specs.Steps.{Did, Told, Does};
 ghost use Rattle.memory.specs.Site.{site_of};
@@ -9,7 +10,7 @@ use lists::{State, Step};
 
 // What a lift looks at in an instruction beyond its form: its address, the address and slot numbers of its first operand, and
 // whether that operand is a register.
-#[derive(Drop)]
+#[derive(Clone, Copy)]
 pub struct Site {
     pub address: u64,
     pub memory: u32,
@@ -18,7 +19,7 @@ pub struct Site {
 }
 
 // The state after an instruction, and the answer's number.
-#[derive(Drop)]
+#[derive(Clone, Copy)]
 pub struct Done {
     pub state: State,
     pub answer: u32,

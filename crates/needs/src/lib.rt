@@ -1,4 +1,5 @@
 // Which nodes a root needs: one pass from the root down over a lent column of marks.
+#![tactic(auto)]
 ghost use Rattle.std.specs.Prelude.{◌≡◌, ◌+◌, ◌*◌, ◌≤◌, ◌<◌, length};
 ghost use Rattle.needs.specs.Needed.{arity, marked, spread, marked_from};
 

@@ -1,5 +1,6 @@
 // The reader that remembers its place in the lent bytes. The borrow checker covers no function over a struct that holds a reference:
 // each one here is thin, leaves the work to a function of plain parameters, and is proved by hand.
+#![tactic(auto)]
 ghost use Rattle.std.specs.Prelude.{◌≡◌};
 ghost use Rattle.records.specs.Format.{taken_at};
 ghost use Rattle.records.specs.Numbers.{place_of};
@@ -7,7 +8,7 @@ ghost use Rattle.records.specs.Numbers.{place_of};
 use records::{Cursor, Outcome, Taken};
 
 // The lent bytes, and the place of the next record.
-#[derive(Drop)]
+#[derive(Clone, Copy)]
 pub struct Reader<'a> {
     pub input: &'a [u8],
     pub at: usize,

@@ -1,4 +1,5 @@
 // The reader of one record from lent bytes: marks, numbers, texts and operands, one byte at a time.
+#![tactic(auto)]
 ghost use Rattle.std.specs.Prelude.{◌≡◌, ◌^◌, ◌<◌, ◌≤◌, length};
 ghost use Rattle.records.specs.Reading.{limited_at, either_at, number_at};
 ghost use Rattle.records.specs.Format.{no_text, absent, no_instruction, text_at, register_at, memory_at, operand_at, present_at, record_at, end_at, answer, took, taken_at};
@@ -9,13 +10,13 @@ use forms::{Instruction, Operand};
 use texts::Text;
 
 // A place in the lent bytes.
-#[derive(Drop)]
+#[derive(Clone, Copy)]
 pub struct Cursor {
     pub at: usize,
 }
 
 // Why bytes are no record: a text, an operand or a mark that is none, or an end that comes early.
-#[derive(Drop)]
+#[derive(Clone, Copy)]
 pub enum Refusal {
     BadText,
     BadOperand,
@@ -36,7 +37,7 @@ pub fn refusal_number(r: Refusal) -> u32
 }
 
 // What stands at a place: a record or the end mark, with the next place, or a refusal with the offending place.
-#[derive(Drop)]
+#[derive(Clone, Copy)]
 pub enum Outcome {
     Record(Cursor),
     End(Cursor),
@@ -44,39 +45,39 @@ pub enum Outcome {
 }
 
 // The outcome, and the record's instruction: all zeros beside anything but a record.
-#[derive(Drop)]
+#[derive(Clone, Copy)]
 pub struct Taken {
     pub outcome: Outcome,
     pub insn: Instruction,
 }
 
 // Where a reading goes on, or that it was refused: then all that follows leaves the refusal as it is.
-#[derive(Drop)]
+#[derive(Clone, Copy)]
 enum Next {
     At(usize),
     Stop(Refusal, usize),
 }
 
 // What was read, and where the reading goes on. The value beside a refusal has no meaning.
-#[derive(Drop)]
+#[derive(Clone, Copy)]
 struct ByteRead {
     value: u8,
     next: Next,
 }
 
-#[derive(Drop)]
+#[derive(Clone, Copy)]
 struct NumberRead {
     value: u64,
     next: Next,
 }
 
-#[derive(Drop)]
+#[derive(Clone, Copy)]
 struct TextRead {
     text: Text,
     next: Next,
 }
 
-#[derive(Drop)]
+#[derive(Clone, Copy)]
 struct OperandRead {
     operand: Operand,
     next: Next,

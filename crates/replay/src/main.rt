@@ -1,10 +1,11 @@
 // Replays the stored answers of the Rust: each row of data/ against the proved calls.
+#![tactic(auto)]
 ghost use Rattle.std.specs.Prelude.{◌≡◌, ◌+◌, ◌≤◌, ◌<◌, length};
 
 use libc::STDOUT_FILENO;
 
 // Whose rows are read, one of the files in data/.
-#[derive(Drop)]
+#[derive(Clone, Copy)]
 enum File {
     Instructions,
     Records,
@@ -15,7 +16,7 @@ enum File {
 }
 
 // What a turn found: a row whose answers are the calls' own, another one, or no further row.
-#[derive(Drop)]
+#[derive(Clone, Copy)]
 enum Turn {
     Equal,
     Different,

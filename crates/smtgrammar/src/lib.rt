@@ -1,7 +1,8 @@
 // The grammar that the reader of SMT-LIB text follows: what is known in the middle of a text, definitions and laws.
+#![tactic(auto)]
 
 // Between two lines.
-#[derive(Drop)]
+#[derive(Clone, Copy)]
 pub struct Place {
     // The part of the text that has begun: 0 declares, 1 defines, 2 asserts.
     pub part: usize,
@@ -19,7 +20,7 @@ pub struct Place {
 }
 
 // In a line.
-#[derive(Drop)]
+#[derive(Clone, Copy)]
 pub struct Line {
     // Which choice comes next.
     pub stage: usize,

@@ -1,4 +1,5 @@
 // Reads SMT-LIB text of the subset: the nodes that it says, or the first byte from which no text of it can follow.
+#![tactic(auto)]
 mod next;
 mod rows;
 
@@ -14,7 +15,7 @@ use smtgrammar::{Line, Place};
 use smttokens::Token;
 
 // What a run over a text says: the number of nodes, or the place from which none can follow; or a number has no entry in the columns.
-#[derive(Drop)]
+#[derive(Clone, Copy)]
 pub enum Ran {
     Nodes(usize),
     Stop(usize),
@@ -22,7 +23,7 @@ pub enum Ran {
 }
 
 // What reading a text says.
-#[derive(Drop)]
+#[derive(Clone, Copy)]
 pub enum Reading {
     // The number of nodes that were written.
     Rows(usize),
@@ -33,7 +34,7 @@ pub enum Reading {
 }
 
 // What columns make of a text: what reading it says, or that a number has no entry in them.
-#[derive(Drop)]
+#[derive(Clone, Copy)]
 pub enum Tried {
     Told(Reading),
     Long,

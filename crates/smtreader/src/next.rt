@@ -11,7 +11,7 @@ ghost use Rattle.smtreader.specs.Inside.{tables_of, state_of, Rowed, Bounded, En
 use smtgrammar::{Line, Place};
 
 // Where a choice leads to, beside the tables.
-#[derive(Drop)]
+#[derive(Clone, Copy)]
 pub(crate) struct At {
     pub(crate) place: Place,
     pub(crate) line: Line,

@@ -1,1 +1,2 @@
 // The runs of the grammar are the texts of the subset: laws alone.
+#![tactic(auto)]

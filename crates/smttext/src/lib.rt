@@ -1,1 +1,2 @@
 // The SMT-LIB text of formulas: definitions and laws alone.
+#![tactic(auto)]

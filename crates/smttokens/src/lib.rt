@@ -1,4 +1,5 @@
 // One token of SMT-LIB text: which of the choices of the grammar stands at the front, or the first byte from which none can follow.
+#![tactic(auto)]
 mod guesses;
 mod matching;
 mod texts;
@@ -12,21 +13,21 @@ ghost use Rattle.smttokens.specs.Taken.{shown, state, Tried, Right, Takes};
 use smtgrammar::{Line, Place};
 
 // How much of a text stands at the front of another, and whether all of it does.
-#[derive(Drop)]
+#[derive(Clone, Copy)]
 pub struct Match {
     pub far: usize,
     pub same: bool,
 }
 
 // What one choice makes of the search: it is there as a whole, or how far the choices so far reach.
-#[derive(Drop)]
+#[derive(Clone, Copy)]
 pub struct Try {
     pub done: bool,
     pub far: usize,
 }
 
 // A choice and how many bytes it took, or the place where none can follow.
-#[derive(Drop)]
+#[derive(Clone, Copy)]
 pub enum Token {
     Took(usize, usize),
     Stop(usize),

@@ -1,4 +1,5 @@
 // Writes what a root needs as SMT-LIB text: declarations, definitions, assertions.
+#![tactic(auto)]
 mod terms;
 
 ghost use Rattle.std.specs.Prelude.{◌≡◌, cond, ◌&&◌, [], ◌≤◌, get_or, take};
@@ -11,7 +12,7 @@ ghost use Rattle.smtwriter.specs.Written.{Writes};
 use sorts::Verdict;
 
 // What writing a root's text says.
-#[derive(Drop)]
+#[derive(Clone, Copy)]
 pub enum Written {
     // The number of bytes that were written.
     Bytes(usize),

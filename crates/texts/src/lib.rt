@@ -1,18 +1,19 @@
 // Texts of at most 32 bytes: trimming, letters without case, and the place on the stack that a text names.
+#![tactic(auto)]
 ghost use Rattle.std.specs.Prelude.{◌≡◌, ◌<◌, ◌≤◌, length, take, drop};
 ghost use Rattle.texts.specs.Bytes.{bytes_of, valid_of};
 ghost use Rattle.texts.specs.Letters.{lower_of, blank_is, skip, cut, trim_of, same_letters};
 ghost use Rattle.texts.specs.Places.{digit_of, digits, number, signed, place_of};
 
 // A text by value: its first `len` bytes.
-#[derive(Drop)]
+#[derive(Clone, Copy)]
 pub struct Text {
     pub bytes: [u8; 32],
     pub len: usize,
 }
 
 // A place on the stack, or that a text names none.
-#[derive(Drop)]
+#[derive(Clone, Copy)]
 pub enum Place {
     At(u32),
     Nowhere,

@@ -1,1 +1,2 @@
 // Laws of readers that say where a text stops being one: no function, only theorems in specs/.
+#![tactic(auto)]

@@ -1,4 +1,5 @@
 // Numbers of up to 128 bits in two words. Each promise gives the words themselves, as those of a number.
+#![tactic(auto)]
 pub mod bytes;
 
 ghost use Rattle.std.specs.Prelude.{◌≡◌, ℕ, ◌*◌, ◌/◌, ◌%◌, ◌^◌, ltb, eqb};
@@ -6,7 +7,7 @@ ghost use Rattle.std.specs.Int.Bits.{bit_and, bit_or, bit_xor};
 ghost use Rattle.words.specs.Wide.{val, wide_of, extract_of, concat_of};
 
 // A number of up to 128 bits: its low word and its high word.
-#[derive(Drop)]
+#[derive(Clone, Copy)]
 pub struct Wide {
     pub lo: u64,
     pub hi: u64,

@@ -1,4 +1,5 @@
 // Reads records from standard input and writes their listing to standard output. With an argument it reads nothing and says its version or what it does.
+#![tactic(auto)]
 ghost use Rattle.std.specs.Prelude.{◌≤◌, length};
 ghost use Rattle.x87lift.specs.Arguments.{Asks};
 
@@ -6,7 +7,7 @@ use libc::{STDIN_FILENO, STDOUT_FILENO};
 use listing::Listed;
 
 // What the program is asked for.
-#[derive(Drop)]
+#[derive(Clone, Copy)]
 enum Asked {
     Run,
     Version,
