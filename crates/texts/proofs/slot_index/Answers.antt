@@ -10,7 +10,7 @@ returns-then-lower-eq40 c =
     let t = c.trim-t in
     placed _ _ _ t.ensures
     (named-on t.result.now c.if-t-lt3.false _ _ _ c.lower.ensures c.lower-then-lower-eq115.ensures c.lower-then-lower-eq116.ensures
-    c.if-lower-eq115.true c.if-lower-eq116.true c.if-lower-eq40.true ∙ sym c.Signed-of.ensures)
+    c.if-lower-eq115.true c.if-lower-eq116.true c.if-lower-eq40.true ∙ sym c.signed_of.ensures)
 
 pub returns-else-lower-eq40 : goal.returns-else-lower-eq40
 returns-else-lower-eq40 c =
