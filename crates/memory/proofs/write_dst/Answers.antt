@@ -1,0 +1,10 @@
+use Rattle.memory.specs.Memory.{write_dst_of}
+use Rattle.memory.proofs.write_dst.Goals as goal
+
+pub returns-then-site : goal.returns-then-site
+unfolding write_dst_of
+returns-then-site c = rw c.if-site.true c.statement.ensures
+
+pub returns : goal.returns
+unfolding write_dst_of
+returns c = rw c.if-site.false c.statement-2.ensures
