@@ -15,10 +15,10 @@ pub struct Reader<'a> {
 }
 
 // What stands at a place of lent bytes.
-fn taken_at(input: &[u8], at: usize) -> Taken
-    ensures { result ≡ taken_at input.now at }
+fn taken_at(input: &[u8], place: usize) -> Taken
+    ensures { result ≡ taken_at input.now place }
 {
-    records::read_record(input, Cursor { at: at })
+    records::read_record(input, Cursor { at: place })
 }
 
 // The place behind what was read, or the offending one.
