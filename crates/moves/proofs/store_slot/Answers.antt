@@ -1,0 +1,11 @@
+use Rattle.std.proofs.Common.{refl}
+use Rattle.lists.proofs.Sequence.{then, same}
+use Rattle.moves.specs.Moves.{store_slot_of}
+use Rattle.moves.proofs.store_slot.Goals as goal
+
+pub returns : goal.returns
+unfolding store_slot_of
+returns c =
+    then _ c.read-value.ensures
+    (then _ c.write-t.ensures
+    (same c.drop_if.ensures refl))
