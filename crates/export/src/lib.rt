@@ -41,8 +41,7 @@ fn classify_in(flat: &[u8], out: &mut [u64]) -> u32
 }
 
 // Classifies the instruction that stands in the first 177 bytes, and tells its form's eight words.
-#[unsafe(no_mangle)]
-pub extern "C" fn x87_classify(flat: &[u8], out: &mut [u64]) -> u32
+pub fn x87_classify(flat: &[u8], out: &mut [u64]) -> u32
     ensures { Classifies flat.now out.old result out.new }
 {
     if 8 <= out.len() {
@@ -57,8 +56,7 @@ pub extern "C" fn x87_classify(flat: &[u8], out: &mut [u64]) -> u32
 }
 
 // Tells why the instruction that stands in the first 177 bytes is declined; the answer is that of `x87_classify`.
-#[unsafe(no_mangle)]
-pub extern "C" fn x87_why(flat: &[u8], out: &mut [u64]) -> u32
+pub fn x87_why(flat: &[u8], out: &mut [u64]) -> u32
     ensures { Reasons flat.now out.old result out.new }
 {
     if 1 <= out.len() {
@@ -91,8 +89,7 @@ fn effect_in(flat: &[u8], out: &mut [u64]) -> u32
 }
 
 // Tells the seven flags of what the instruction touches.
-#[unsafe(no_mangle)]
-pub extern "C" fn x87_effect(flat: &[u8], out: &mut [u64]) -> u32
+pub fn x87_effect(flat: &[u8], out: &mut [u64]) -> u32
     ensures { Affects flat.now out.old result out.new }
 {
     if 7 <= out.len() {
@@ -132,8 +129,7 @@ fn read_in(input: &[u8], at: usize, flat: &mut [u8], out: &mut [u64]) -> u32
 }
 
 // Reads the record at a place: tells the next place or the offending one and whether a record was read, and writes its instruction.
-#[unsafe(no_mangle)]
-pub extern "C" fn x87_read_record(input: &[u8], at: usize, flat: &mut [u8], out: &mut [u64]) -> u32
+pub fn x87_read_record(input: &[u8], at: usize, flat: &mut [u8], out: &mut [u64]) -> u32
     ensures { ReadsRecord (taken_at input.now at) flat.old out.old result flat.new out.new }
 {
     if 2 <= out.len() {
@@ -181,8 +177,7 @@ fn lift_in(
 }
 
 // Lifts the instruction that stands in the first 177 bytes, and tells the detail of a decline. It is classified here, where it lies: to hand it on by value is to copy all of it.
-#[unsafe(no_mangle)]
-pub extern "C" fn x87_lift(
+pub fn x87_lift(
     flat: &[u8],
     state: &mut [u64],
     nodes: &mut [u64],
@@ -253,8 +248,7 @@ fn lift_record_in(
 }
 
 // Reads the record at a place and lifts its instruction.
-#[unsafe(no_mangle)]
-pub extern "C" fn x87_lift_record(
+pub fn x87_lift_record(
     input: &[u8],
     at: usize,
     state: &mut [u64],

@@ -2,8 +2,7 @@
 ghost use Rattle.export.specs.Texts.{WritesText, ReadsText};
 
 // The text of a root of the first `count` nodes; the first word of `out` is the number of its bytes, the first node without a sort, or 0.
-#[unsafe(no_mangle)]
-pub extern "C" fn x87_smt_write(
+pub fn x87_smt_write(
     nodes: &[u64],
     count: usize,
     root: usize,
@@ -21,8 +20,7 @@ pub extern "C" fn x87_smt_write(
 }
 
 // The nodes that a text says, from number 0 on; the first word of `out` is their number, the place from which no text can follow, or 0.
-#[unsafe(no_mangle)]
-pub extern "C" fn x87_smt_read(text: &[u8], nodes: &mut [u64], out: &mut [u64]) -> u32
+pub fn x87_smt_read(text: &[u8], nodes: &mut [u64], out: &mut [u64]) -> u32
     ensures { ReadsText text.now nodes.old out.old result nodes.new out.new }
 {
     if 1 <= out.len() {

@@ -16,8 +16,7 @@ fn pattern_words(f: Found) -> [u64; 2]
 }
 
 // The pattern of an image of ten bytes, or the free one: two words, low first.
-#[unsafe(no_mangle)]
-pub extern "C" fn x87_image_read(image: &[u8], low: u64, high: u64, out: &mut [u64]) -> u32
+pub fn x87_image_read(image: &[u8], low: u64, high: u64, out: &mut [u64]) -> u32
     ensures { ReadsImage image.now low high out.old result out.new }
 {
     if 2 <= out.len() {
@@ -30,16 +29,14 @@ pub extern "C" fn x87_image_read(image: &[u8], low: u64, high: u64, out: &mut [u
 }
 
 // The ten bytes of a pattern's image.
-#[unsafe(no_mangle)]
-pub extern "C" fn x87_image_write(image: &mut [u8], low: u64, high: u64) -> u32
+pub fn x87_image_write(image: &mut [u8], low: u64, high: u64) -> u32
     ensures { WritesImage image.old low high result image.new }
 {
     answers::values::written_number(image::write(image, Wide { lo: low, hi: high }))
 }
 
 // The sort check of the first `count` nodes; the first word of `out` is the first node without a sort, or 0.
-#[unsafe(no_mangle)]
-pub extern "C" fn x87_check(nodes: &[u64], count: usize, out: &mut [u64]) -> u32
+pub fn x87_check(nodes: &[u64], count: usize, out: &mut [u64]) -> u32
     ensures { ChecksNodes nodes.now count out.old result out.new }
 {
     if 1 <= out.len() {
@@ -51,8 +48,7 @@ pub extern "C" fn x87_check(nodes: &[u64], count: usize, out: &mut [u64]) -> u32
 }
 
 // The values of the first `count` nodes, two words each; the first word of `out` is the node that is to blame, or 0.
-#[unsafe(no_mangle)]
-pub extern "C" fn x87_evaluate(
+pub fn x87_evaluate(
     nodes: &[u64],
     count: usize,
     given: &[u64],

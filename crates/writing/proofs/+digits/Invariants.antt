@@ -1,5 +1,5 @@
 use Rattle.writing.proofs.+digits.Given as goal
 
--- the number falls by its last digit
+-- the digits that are left
 abbrev pub decreases-digits : goal.decreases-digits
 decreases-digits l = l.k

@@ -1,0 +1,15 @@
+use Rattle.std.proofs.Common.{arith}
+use Rattle.writing.specs.Bytes.{digits}
+use Rattle.writing.proofs.Parts.{few, many}
+use Rattle.smttokens.specs.Matches.{then, also, nothing}
+use Rattle.smttokens.proofs.matching.+digits.Goals as goal
+
+pub returns-then-k-eq0 : goal.returns-then-k-eq0
+unfolding digits
+returns-then-k-eq0 t c = also (rw c.if-k-eq0.true) nothing
+
+pub returns-then-v-lt10 : goal.returns-then-v-lt10
+returns-then-v-lt10 t c = also (few _ _ c.if-k-eq0.false c.if-v-lt10.true) c.one.ensures
+
+pub returns : goal.returns
+returns t c = also (many _ _ c.if-k-eq0.false c.if-v-lt10.false) (then c.digits-r.ensures c.one-2.ensures)

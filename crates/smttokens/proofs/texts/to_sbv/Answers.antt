@@ -1,0 +1,7 @@
+use Rattle.smttokens.specs.Matches.{then}
+use Rattle.writing.specs.Bytes.{bytes}
+use Rattle.smttokens.proofs.texts.to_sbv.Goals as goal
+
+pub returns : goal.returns
+unfolding bytes
+returns c = (then c.all-p.ensures (then c.decimal-q.ensures c.all.ensures))
