@@ -280,7 +280,7 @@ fn edited(base: &Path, edit: &Joint) -> PathBuf {
 fn refuses(said: &str, file: &str) -> bool {
     let place = file.replacen("agreement", ".", 1) + ":";
     said.lines().any(|line| {
-        line.starts_with(&place) && line.contains(": error: ") && !line.contains("was not admitted")
+        line.starts_with(&place) && line.contains(": error: ") && !line.contains(" not checked: ")
     })
 }
 
