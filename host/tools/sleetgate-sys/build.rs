@@ -17,7 +17,7 @@ const DEFAULT: &str = "../../../target/staticlib/libexport.a";
 const SERVED: &str = "src/served.c";
 
 /// What is said where the library is an older one.
-const ANEW: &str = "make it anew by `rt staticlib export`";
+const ANEW: &str = "make it anew by `bash host/tools/library.sh`";
 
 /// The calls that the library has to export.
 const CALLS: [&str; 12] = [

@@ -3,7 +3,7 @@
 set -euo pipefail
 cd "$(dirname "$0")/../../.."
 if [ ! -f "${SLEETGATE_LIB:-target/staticlib/libexport.a}" ]; then
-    echo "the proved library is not there; build it by: rt staticlib export" >&2
+    echo "the proved library is not there; build it by: bash host/tools/library.sh" >&2
     exit 1
 fi
 if ! command -v z3 >/dev/null; then

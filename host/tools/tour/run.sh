@@ -3,10 +3,10 @@
 # Where this machine's compiler makes other code of them, that is said, and the stored disassembly is taken.
 set -euo pipefail
 cd "$(dirname "$0")/../../.."
-lift=${SLEETGATE_X87LIFT:-target/bin/x87lift}
+lift=${SLEETGATE_X87LIFT:-crates/x87lift/out/x87lift}
 library=${SLEETGATE_LIB:-target/staticlib/libexport.a}
 if [ ! -x "$lift" ] || [ ! -f "$library" ]; then
-    echo "x87lift or the proved library is not there; build them by: rt check x87lift && rt staticlib export" >&2
+    echo "x87lift or the proved library is not there; build them by: (cd crates/x87lift && rt run -- --version) && bash host/tools/library.sh" >&2
     exit 1
 fi
 lifting=("$lift")

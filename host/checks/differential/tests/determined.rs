@@ -1,5 +1,7 @@
 //! Theorem 5 has a line for each public call of the proved crates, and the
 //! line is of that call's own contract and of every slice that it is lent.
+//! No crate can cite a static library: each function that `export_c` exports
+//! is one call of `export`, under its name and with its clauses.
 
 use std::fs;
 use std::path::{Path, PathBuf};
@@ -69,6 +71,9 @@ fn public(krate: &str, path: &str, text: &str) -> Vec<Call> {
     out
 }
 
+/// The static library.
+const EXPORTS: &str = "export_c";
+
 /// Every public call of every library crate: of its root, and of its public
 /// modules.
 fn calls() -> Vec<Call> {
@@ -80,15 +85,18 @@ fn calls() -> Vec<Call> {
         }
         let folder = source.parent().and_then(Path::file_name).expect("a name");
         let krate = folder.to_string_lossy();
+        if krate == EXPORTS {
+            continue;
+        }
         let text = read(&source.join("lib.rt"));
-        out.extend(public(&krate, &format!("Rattle·{krate}.proofs"), &text));
+        out.extend(public(&krate, &format!("Rattle.{krate}.proofs"), &text));
         for line in text.lines() {
             if let Some(module) = line.strip_prefix("pub mod ") {
                 let module = module.trim_end_matches(';');
                 let text = read(&source.join(format!("{module}.rt")));
                 out.extend(public(
                     &krate,
-                    &format!("Rattle·{krate}.proofs.{module}"),
+                    &format!("Rattle.{krate}.proofs.{module}"),
                     &text,
                 ));
             }
@@ -107,16 +115,17 @@ fn expected(call: &Call) -> String {
     let name = call.name.replace('_', "-");
     let key = format!("pub {krate}·{name}");
     match (krate.as_str(), name.as_str()) {
-        ("texts", "trim") => format!("{key} : Fixes {contract}.Reads.Post (λ κ r x. now r)"),
+        ("texts", "trim") => format!("{key} : Fixes {contract}.Reads.Post (λ κ r x. r.now)"),
         ("reader", "new" | "moved" | "take") => format!(
-            "{key}-says : {{M : Type 1}} (𝓤 : URA M) (H : Heap 𝓤) (A : _) (memory : _) (run : _) (κ : _) (a : _) (t : _) (e : _) → {contract}.clauses 𝓤 H A memory run κ a .ensures tt t e ≡ connectives 𝓤 .⌜_⌝"
+            "{key}-says : {{M : Type 1}} (𝓤 : Ura M) (H : Heap 𝓤) (A : _) (memory : _) (run : _) (κ : _) (a : _) (t : _) (e : _) → (Rattle.{krate}.specs.contracts.{}.clauses 𝓤 H A memory run κ a).ensures tt t e ≡ (connectives 𝓤).⌜◌⌝",
+            call.name
         ),
         _ => {
             let which = ["", "₁", "₂", "₃", "₄"][call.lent.len()];
             let slices: String = call
                 .lent
                 .iter()
-                .map(|k| format!(" (λ κ x. now (x{} .0))", " .1".repeat(*k)))
+                .map(|k| format!(" (λ κ x. x{}.0.now)", ".1".repeat(*k)))
                 .collect();
             format!("{key} : Determined{which} {contract}.Reads.Post{slices}")
         }
@@ -175,11 +184,96 @@ fn another_statement_is_reported() {
         said("proofs.bv_xor.Reads", "proofs.bv_and.Reads"),
         ["exprs::bv_xor"]
     );
-    let lift = "lifter.proofs.lift.Reads.Post (λ κ x. now (x .0))";
-    let lent = " (λ κ x. now (x .1 .0))";
+    let lift = "lifter.proofs.lift.Reads.Post (λ κ x. x.0.now)";
+    let lent = " (λ κ x. x.1.0.now)";
     assert_eq!(said(&format!("{lift}{lent}"), lift), ["lifter::lift"]);
     assert_eq!(
-        said("reader.proofs.take.clauses", "reader.proofs.new.clauses"),
+        said(
+            "reader.specs.contracts.take.clauses",
+            "reader.specs.contracts.new.clauses"
+        ),
         ["reader::take"]
+    );
+}
+
+/// The source of a call's module, as its path in a body names it.
+fn source_of(module: &str) -> String {
+    let file = if module.is_empty() { "lib" } else { module };
+    read(&root().join(format!("crates/export/src/{file}.rt")))
+}
+
+/// The exports of a source that are not one call of `export`, of the same
+/// name, parameters and clauses; and the calls that it does not export.
+fn astray(exports: &str) -> Vec<String> {
+    let mut lacking: Vec<String> = calls()
+        .into_iter()
+        .filter(|call| call.krate == "export")
+        .map(|call| call.name)
+        .collect();
+    let mut out = Vec::new();
+    for part in exports
+        .split("\n#[unsafe(no_mangle)]\npub extern \"C\" fn ")
+        .skip(1)
+    {
+        let (promised, rest) = part.split_once("\n{\n").expect("a body");
+        let body = rest.split("\n}").next().expect("its end");
+        let (name, open) = promised.split_once('(').expect("parameters");
+        let given: Vec<&str> = parameters(open)
+            .iter()
+            .map(|p| p.split(':').next().expect("a name"))
+            .collect();
+        let call = format!("{name}({})", given.join(", "));
+        let module = plain(body)
+            .strip_suffix(&call)
+            .and_then(|path| path.strip_prefix("export::").map(str::to_owned))
+            .map(|path| path.trim_end_matches("::").to_owned());
+        let same = module.is_some_and(|module| {
+            source_of(&module).contains(&format!("\npub fn {promised}\n{{\n"))
+        });
+        let known = lacking.iter().position(|call| call == name);
+        if let Some(place) = known {
+            lacking.remove(place);
+        }
+        if known.is_none() || !same {
+            out.push(name.to_owned());
+        }
+    }
+    out.extend(lacking);
+    out
+}
+
+fn exports() -> String {
+    read(&root().join("crates").join(EXPORTS).join("src/lib.rt"))
+}
+
+#[test]
+fn each_export_is_a_call_of_the_library() {
+    assert_eq!(astray(&exports()), Vec::<String>::new());
+}
+
+#[test]
+fn another_export_is_reported() {
+    let said = |old: &str, new: &str| {
+        let text = exports();
+        assert!(text.contains(old), "{old}");
+        astray(&text.replacen(old, new, 1))
+    };
+    assert_eq!(
+        said("Classifies flat.now out.old", "Affects flat.now out.old"),
+        ["x87_classify"]
+    );
+    assert_eq!(
+        said(
+            "export::values::x87_check(",
+            "export::values::x87_image_read("
+        ),
+        ["x87_check"]
+    );
+    assert_eq!(
+        said(
+            "#[unsafe(no_mangle)]\npub extern \"C\" fn x87_why(",
+            "fn x87_why("
+        ),
+        ["x87_why"]
     );
 }

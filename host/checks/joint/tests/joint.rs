@@ -6,9 +6,10 @@
 //! seconds. The copy without an edit must be proved; with one, `agreement`
 //! must be refused, at the file of the theorem that the edit is about.
 
+use std::env;
 use std::fs;
 use std::path::{Path, PathBuf};
-use std::process::Command;
+use std::process::{self, Command};
 use std::thread;
 
 /// The folder of the joint edits, a file each.
@@ -26,7 +27,8 @@ const WITH_LAWS: [&str; 7] = [
     "agreement",
 ];
 
-/// Programs, and what cites the contracts of functions.
+/// The programs, and what cites the contracts of functions. Static libraries
+/// are functions alone, and are left out too.
 const LEFT_OUT: [&str; 2] = ["replay", "x87lift"];
 const CITES_CODE: [&str; 3] = ["Determined", "Cited", "Theorems"];
 
@@ -119,9 +121,11 @@ fn joints() -> Vec<Joint> {
         .collect()
 }
 
-/// A source without its functions: types and constants stay.
+/// A source without its functions: types and constants stay, with their
+/// attributes.
 fn declarations(source: &str) -> String {
     let mut out = String::new();
+    let mut attributes = String::new();
     let mut inside = false;
     for line in source.lines() {
         let plain = line
@@ -129,11 +133,20 @@ fn declarations(source: &str) -> String {
             .or(line.strip_prefix("pub "))
             .unwrap_or(line);
         let plain = plain.strip_prefix("extern \"C\" ").unwrap_or(plain);
-        inside |= plain.starts_with("fn ");
-        if !inside && line != "#[no_mangle]" {
+        inside |= ["fn ", "const fn ", "impl ", "impl<"]
+            .iter()
+            .any(|start| plain.starts_with(start));
+        if !inside && line.starts_with("#[") {
+            attributes.push_str(line);
+            attributes.push('\n');
+            continue;
+        }
+        if !inside {
+            out.push_str(&attributes);
             out.push_str(line);
             out.push('\n');
         }
+        attributes.clear();
         inside &= line != "}";
     }
     out
@@ -180,8 +193,10 @@ fn without_code(root: &Path, to: &Path) {
     let list = read(&root.join("crates.txt"));
     let kept: Vec<(&str, Vec<&str>)> = list
         .lines()
+        .filter(|line| !line.starts_with('#'))
         .filter_map(|line| line.split_once(':'))
-        .filter(|(name, _)| !name.starts_with('#') && !LEFT_OUT.contains(name) && !of_texts(name))
+        .filter(|(name, _)| !name.ends_with(" staticlib"))
+        .filter(|(name, _)| !LEFT_OUT.contains(name) && !of_texts(name))
         .map(|(name, deps)| {
             (
                 name,
@@ -224,9 +239,8 @@ fn without_code(root: &Path, to: &Path) {
 /// Whether `agreement` is proved in a copy, and what is said of it.
 fn proved(copy: &Path) -> (bool, String) {
     let done = Command::new("rt")
-        .args(["check", "agreement"])
-        .env("RT_JOBS", "1")
-        .current_dir(copy)
+        .args(["check", "--jobs", "1"])
+        .current_dir(copy.join("crates/agreement"))
         .output()
         .expect("rt is run");
     let said =
@@ -261,21 +275,45 @@ fn edited(base: &Path, edit: &Joint) -> PathBuf {
     to
 }
 
+/// Whether what is said refuses this file of `agreement` for itself, and not
+/// for another refused thing that it rests on.
+fn refuses(said: &str, file: &str) -> bool {
+    let place = file.replacen("agreement", ".", 1) + ":";
+    said.lines().any(|line| {
+        line.starts_with(&place) && line.contains(": error: ") && !line.contains(" not checked: ")
+    })
+}
+
 /// What is wrong with how an edit is refused: the crates below must be
 /// proved, and the file that it names must be among what is refused.
 fn fault(base: &Path, edit: &Joint) -> Option<String> {
-    let (ok, said) = proved(&edited(base, edit));
-    let named = said
-        .lines()
-        .any(|line| line.contains("error") && line.contains(&edit.refused));
-    let below = said
-        .lines()
-        .find(|line| line.contains("NOT PROVED") && !line.contains("agreement"));
+    let copy = edited(base, edit);
+    let (ok, said) = proved(&copy);
+    let _ = fs::remove_dir_all(&copy);
+    let below = said.contains("did not build");
     let first = said
         .lines()
         .find(|line| line.contains("error"))
         .unwrap_or("no error");
-    (ok || !named || below.is_some()).then(|| format!("{}: {first}", edit.name))
+    (ok || below || !refuses(&said, &edit.refused)).then(|| format!("{}: {first}", edit.name))
+}
+
+/// A folder outside the repository, whose own check reads every file in it;
+/// it is removed at the end.
+struct Folder(PathBuf);
+
+impl Folder {
+    fn new() -> Self {
+        let path = env::temp_dir().join(format!("joint-{}", process::id()));
+        let _ = fs::remove_dir_all(&path);
+        Self(path)
+    }
+}
+
+impl Drop for Folder {
+    fn drop(&mut self) {
+        let _ = fs::remove_dir_all(&self.0);
+    }
 }
 
 #[test]
@@ -284,9 +322,8 @@ fn each_joint_edit_is_refused_by_its_theorem() {
         println!("rt is not at hand: the joint edits are left out");
         return;
     }
-    let folder = here().join("../../target/joint");
-    let _ = fs::remove_dir_all(&folder);
-    let base = folder.join("base");
+    let folder = Folder::new();
+    let base = folder.0.join("base");
     without_code(&here().join("../../.."), &base);
     let (ok, said) = proved(&base);
     assert!(ok, "the definitions alone are not proved:\n{said}");
@@ -309,6 +346,5 @@ fn each_joint_edit_is_refused_by_its_theorem() {
             .flat_map(|run| run.join().expect("a run"))
             .collect()
     });
-    let _ = fs::remove_dir_all(&folder);
     assert_eq!(faults, Vec::<String>::new());
 }

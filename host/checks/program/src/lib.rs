@@ -10,17 +10,18 @@ const VARIABLE: &str = "SLEETGATE_X87LIFT";
 
 /// From this crate to the program, where the variable does not say
 /// otherwise.
-const DEFAULT: &str = "../../../target/bin/x87lift";
+const DEFAULT: &str = "../../../crates/x87lift/out/x87lift";
 
 /// What is said where the program is not there.
 #[cfg(target_arch = "x86_64")]
-pub const MISSING: &str = "the program x87lift is not there; build it by: rt check x87lift";
+pub const MISSING: &str =
+    "the program x87lift is not there; build it by: (cd crates/x87lift && rt run -- --version)";
 
 /// What is said where the program is not there, or cannot be run.
 #[cfg(not(target_arch = "x86_64"))]
 pub const MISSING: &str = "the program x87lift, or what runs code for x86-64, is not there; build \
-                           it by: rt check x87lift; install the rest by: bash \
-                           host/tools/emulator.sh";
+                           it by: (cd crates/x87lift && rt run -- --version); install the rest \
+                           by: bash host/tools/emulator.sh";
 
 /// The program, by its path.
 #[derive(Debug, Clone)]

@@ -51,14 +51,15 @@ pub fn is_emulated() -> bool {
 /// What is said where the library is not there.
 #[cfg(target_arch = "x86_64")]
 pub const MISSING: &str = "the static library of the proved crates was not there when this was \
-                           built; make it by `rt staticlib export`, then build this again";
+                           built; make it by `bash host/tools/library.sh`, then build this \
+                           again";
 
 /// What is said where the library is not there, or cannot be run.
 #[cfg(not(target_arch = "x86_64"))]
 pub const MISSING: &str = "the static library of the proved crates, or what runs code for x86-64, \
-                           was not there when this was built; make the library by `rt staticlib \
-                           export`, install the rest by `bash host/tools/emulator.sh`, then \
-                           build this again";
+                           was not there when this was built; make the library by `bash \
+                           host/tools/library.sh`, install the rest by `bash \
+                           host/tools/emulator.sh`, then build this again";
 
 /// 10, and zeros for the words that are told, where they have room.
 fn too_short(out: &mut [u64], told: usize) -> u32 {

@@ -49,9 +49,9 @@
 //! assert_eq!(lifter.stack(), []);
 //! ```
 //!
-//! The library has to be built before the first call (`rt staticlib
-//! export` at the root of the repository); where it is not, each call
-//! panics and says so.
+//! The library has to be built before the first call (`bash
+//! host/tools/library.sh` at the root of the repository); where it is not,
+//! each call panics and says so.
 
 #![forbid(unsafe_code)]
 #![warn(missing_docs)]
