@@ -1,6 +1,6 @@
 -- Rows in a list's words: rows that are laid in are read back, and what stood before them stays
 use Rattle.std.specs.Prelude.{◌≡◌, Bool, true, List, [], ◌∷◌, ℕ, ◌+◌, ◌*◌, ◌≤◌, ◌<◌, length, get_or}
-use Rattle.std.proofs.Common.{subst, ◌∙◌, arith}
+use Rattle.std.proofs.Common.{sym, subst, ◌∙◌, arith}
 use Rattle.std.proofs.Math.Decide.{dec_lt}
 use Rattle.lists.specs.Rows.{Row, row, stored, wrote, length-stored}
 use Rattle.lists.proofs.Frame.{From, word_kept, row_read}
@@ -37,7 +37,7 @@ order_from n m (row k _ _ _ _ ∷ rs) h p = (omega (arith, p.0), order_from n (m
 pub lies : (l : List ℕ) (n : ℕ) (rs : List Row) → InOrder n rs → 4 * (n + length rs) ≤ length l → Lies (wrote l rs) n rs
 unfolding InOrder Lies wrote
 lies l n [] p h = tt
-lies l n (row k x a b c ∷ rs) p h = rw p.0 (
+lies l n (row k x a b c ∷ rs) p h = subst (λ m. Lies (wrote (stored l (row m x a b c)) rs) n (row m x a b c ∷ rs)) (sym p.0) (
     let w = stored l (row n x a b c) in
     let e = length-stored l (row n x a b c) in
     let r = row_read l n x a b c (omega arith) in

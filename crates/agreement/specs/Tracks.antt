@@ -95,4 +95,4 @@ call-follows {Γ₀} {m₀} {h} i f =
 pub run-follows : {Γ₀ : List ℕ} {m₀ : ℕ} {h : Held} (is : List Instruction) → Followed Γ₀ m₀ h → Followed Γ₀ m₀ (ran h is)
 unfolding ran
 run-follows [] f = f
-run-follows (i ∷ is) f = run-follows is (call-follows i f)
+run-follows {h = h} (i ∷ is) f = run-follows {h = called h i} is (call-follows i f)

@@ -1,4 +1,4 @@
-use Rattle.std.proofs.Common.{sym, ◌∙◌}
+use Rattle.std.proofs.Common.{[], sym, ◌∙◌}
 use Rattle.smttokens.specs.Taken.{allowed, matched, tried_other, tried-whole, tried-far, tried-near}
 use Rattle.smttokens.proofs.tried.Goals as goal
 

@@ -1,0 +1,11 @@
+use Rattle.std.proofs.Common.{arith}
+use Rattle.lists.specs.Rows.{room_of}
+use Rattle.smtreader.proofs.room.Goals as goal
+
+pub returns-then-n-lt65535 : goal.returns-then-n-lt65535
+unfolding room_of
+returns-then-n-lt65535 c = omega arith
+
+pub returns-else-n-lt65535 : goal.returns-else-n-lt65535
+unfolding room_of
+returns-else-n-lt65535 c = omega arith
