@@ -1,5 +1,6 @@
 // The numbers of answers and forms, as the definitions of the crates below give them: what goes outside goes through these.
 #![tactic(auto)]
+
 pub mod smt;
 pub mod values;
 

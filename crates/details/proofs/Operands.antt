@@ -8,12 +8,12 @@ use lib.Dec.{eqb}
 use Rattle.texts.specs.Bytes.{bytes_of}
 use Rattle.texts.specs.Places.{place_of}
 use Rattle.texts.specs.declared.Place.{Place}
-use Rattle.texts.specs.declared.Place.TheVariants.{At, Nowhere}
+use Rattle.texts.specs.declared.Place.TheVariants.{Nowhere}
 use Rattle.forms.specs.declared.Operand.{Operand}
 use Rattle.forms.specs.declared.Widths.{Widths}
 use Rattle.forms.specs.declared.Widths.TheVariants.{FloatWidths, FloatShort, IntWidths, IntArith, IntStore, StatusWidth}
 use Rattle.forms.specs.Operands.{among, slot_of, ax_of, widths_of, takes_of}
-use Rattle.details.specs.Takes.{Registers, no_register, places, st0-alone, ax-alone, Takes, only, place, st0, memory, place-or, ax-or}
+use Rattle.details.specs.Takes.{Registers, no_register, places, st0-alone, ax-alone, only, place, st0, memory, place-or, ax-or}
 use Rattle.details.specs.Why.{register_is, place_is, top_is, empty_is, kind_off, address_off, width_off}
 use Rattle.details.specs.Inside.{why_one, why_two, memory_why, both_of}
 

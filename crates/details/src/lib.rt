@@ -1,5 +1,6 @@
 // Why an instruction is declined: the detail that a decline with answer 1 has beside it.
 #![tactic(auto)]
+
 ghost use Rattle.std.specs.Prelude.{◌≡◌, take};
 ghost use Rattle.forms.specs.Operands.{widths_of};
 ghost use Rattle.details.specs.Takes as takes;

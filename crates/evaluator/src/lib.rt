@@ -1,5 +1,6 @@
 // The check that each node of a list has a sort, and the values of the nodes, into a lent column of two words a node, low first.
 #![tactic(auto)]
+
 pub mod table;
 
 ghost use Rattle.std.specs.Prelude.{◌≡◌, cond, not, ◌&&◌, ◌++◌, ◌+◌, ◌*◌, ◌%◌, ◌≤◌, ◌<◌, ◌^◌, eqb, ltb, length, get_or, drop};

@@ -1,5 +1,6 @@
 // What Rust calls, on numbers and slices: classify, effect, the reader of records, the lifter, the image, the sort check, the evaluator and the writer of a root's text.
 #![tactic(auto)]
+
 mod flat;
 pub mod smt;
 mod state;

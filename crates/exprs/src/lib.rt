@@ -1,6 +1,7 @@
 // The expressions of x87 lifting: a node for each call of the Rust's `Expr` constructors, and what is built of them without the stack.
 // Each function is lent the nodes, adds to them, and its step names the node that it built.
 #![tactic(auto)]
+
 ghost use Rattle.std.specs.Prelude.{◌≡◌};
 ghost use Rattle.lists.specs.Steps.{Did};
 ghost use Rattle.forms.specs.Numbers.{rounding_number};

@@ -1,5 +1,6 @@
 // Instructions with decoded operands, what each does to the x87 stack, and what it touches besides.
 #![tactic(auto)]
+
 pub mod families;
 pub mod names;
 

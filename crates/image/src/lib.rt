@@ -1,5 +1,6 @@
 // The 80-bit image of a 79-bit pattern, on ten lent bytes, low byte first.
 #![tactic(auto)]
+
 ghost use Rattle.std.specs.Prelude.{◌≡◌, ◌++◌, ℕ, ◌≤◌, ◌<◌, ◌%◌, ◌^◌, length, take, drop};
 ghost use Rattle.words.specs.Wide.{val, wide_of};
 ghost use Rattle.words.specs.Bytes.{little_endian, bytes_of};

@@ -1,6 +1,6 @@
 -- What a form does: the step answers 0, or 2 where a push overflows
 use Rattle.lists.specs.Steps.{Built}
-use Rattle.lists.specs.Stack.{overflows, exchange_of}
+use Rattle.lists.specs.Stack.{exchange_of}
 use Rattle.lists.specs.declared.State.{State}
 use Rattle.forms.specs.declared.Form.{Form}
 use Rattle.forms.specs.declared.Form.TheVariants.{PushConst, PushMemory, PushSlot, StoreMemory, StoreSlot, Arith, CompareStatus, CompareFlags, ConditionalMove, StoreStatus, Exchange, Unary}

@@ -1,5 +1,6 @@
 // The lift of x87 instructions: `apply_x87`, and the one call `lift`.
 #![tactic(auto)]
+
 ghost use Rattle.std.specs.Prelude.{◌≡◌, ◌+◌, leb};
 ghost use Rattle.lists.specs.Rows.{room_of};
 ghost use Rattle.lists.specs.Steps.{Does};

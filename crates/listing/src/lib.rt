@@ -1,5 +1,6 @@
 // The run over a whole input, and the listing of what it came to.
 #![tactic(auto)]
+
 mod print;
 
 ghost use Rattle.std.specs.Prelude.{◌≡◌, length};

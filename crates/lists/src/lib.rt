@@ -1,5 +1,6 @@
 // Rows of four words in lent lists, the state of a lift, and its stack.
 #![tactic(auto)]
+
 ghost use Rattle.std.specs.Prelude.{◌≡◌, [], ◌∷◌, ◌-◌, ◌<◌};
 ghost use Rattle.lists.specs.Rows.{row, wrote, up, room_of};
 ghost use Rattle.lists.specs.Steps.{Did, Told};

@@ -1,5 +1,6 @@
 // Loads and stores of an instruction's memory operand, and its second input.
 #![tactic(auto)]
+
 ghost use Rattle.std.specs.Prelude.{◌≡◌};
 ghost use Rattle.lists.specs.Steps.{Did, Told, Does};
 ghost use Rattle.memory.specs.Site.{site_of};

@@ -1,6 +1,7 @@
 // What each form does to the stack and the lists: arithmetic, compares, moves, pushes, and the decline.
 // A function is lent the nodes, the statements, or both, and adds to them; it promises every word, the state and the answer.
 #![tactic(auto)]
+
 ghost use Rattle.std.specs.Prelude.{◌≡◌, ◌+◌};
 ghost use Rattle.lists.specs.Steps.{Did, Told, Does};
 ghost use Rattle.lists.specs.Stack.{exchange_of};

@@ -1,5 +1,6 @@
 // Which nodes a root needs: one pass from the root down over a lent column of marks.
 #![tactic(auto)]
+
 ghost use Rattle.std.specs.Prelude.{◌≡◌, ◌+◌, ◌*◌, ◌≤◌, ◌<◌, length};
 ghost use Rattle.needs.specs.Needed.{arity, marked, spread, marked_from};
 

@@ -1,6 +1,7 @@
 // The reader that remembers its place in the lent bytes. The borrow checker covers no function over a struct that holds a reference:
 // each one here is thin, leaves the work to a function of plain parameters, and is proved by hand.
 #![tactic(auto)]
+
 ghost use Rattle.std.specs.Prelude.{◌≡◌};
 ghost use Rattle.records.specs.Format.{taken_at};
 ghost use Rattle.records.specs.Numbers.{place_of};

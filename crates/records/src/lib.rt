@@ -1,5 +1,6 @@
 // The reader of one record from lent bytes: marks, numbers, texts and operands, one byte at a time.
 #![tactic(auto)]
+
 ghost use Rattle.std.specs.Prelude.{◌≡◌, ◌^◌, ◌<◌, ◌≤◌, length};
 ghost use Rattle.records.specs.Reading.{limited_at, either_at, number_at};
 ghost use Rattle.records.specs.Format.{no_text, absent, no_instruction, text_at, register_at, memory_at, operand_at, present_at, record_at, end_at, answer, took, taken_at};

@@ -1,5 +1,6 @@
 // Replays the stored answers of the Rust: each row of data/ against the proved calls.
 #![tactic(auto)]
+
 ghost use Rattle.std.specs.Prelude.{◌≡◌, ◌+◌, ◌≤◌, ◌<◌, length};
 
 use libc::STDOUT_FILENO;

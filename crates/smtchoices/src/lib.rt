@@ -1,5 +1,6 @@
 // Which choices let a text follow: the tests of the grammar, stage by stage.
 #![tactic(auto)]
+
 mod present;
 
 ghost use Rattle.std.specs.Prelude.{◌≡◌, cond, ◌&&◌, ◌||◌, ◌+◌, ◌-◌, ◌*◌, [], get_or};

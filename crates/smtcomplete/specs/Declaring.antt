@@ -18,7 +18,7 @@ use Rattle.smtgrammar.specs.Tokens.{line_text, text_at}
 use Rattle.smtgrammar.specs.Next.{begun, declared, next_at}
 use Rattle.smtgrammar.specs.Grammar.{size_at}
 use Rattle.smtcomplete.specs.Lines.{between, Reach, both, token}
-use Rattle.smtcomplete.specs.Words.{number, number-run}
+use Rattle.smtcomplete.specs.Words.{number-run}
 
 -- the tokens of a declaration: node i, kind k, number a, width s
 unfoldable pub declared_line : ℕ → ℕ → ℕ → ℕ → List ℕ

@@ -9,7 +9,7 @@ use Rattle.sorts.specs.Lists.{field, sorts, row_sort}
 use Rattle.sorts.specs.Laws.{Passes, length-sorts, take-sorts, passed-sorted, row_small}
 use Rattle.needs.specs.Needed.{arity, Operand}
 use Rattle.needs.specs.Laws.{word}
-use Rattle.needs.specs.Passing.{earlier, operand}
+use Rattle.needs.specs.Passing.{operand}
 use Rattle.smttext.specs.Names.{kind_at}
 
 -- two choices by one test

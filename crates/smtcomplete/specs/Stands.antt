@@ -11,7 +11,7 @@ use Rattle.smttext.specs.Text.{on}
 use Rattle.smttext.specs.Subset.{Kept}
 use Rattle.smtgrammar.specs.declared.Place.{Place}
 use Rattle.smtgrammar.specs.State.{limit, Tables}
-use Rattle.smtgrammar.specs.Present.{source, suits}
+use Rattle.smtgrammar.specs.Present.{source}
 use Rattle.smtgrammar.specs.Next.{entered, obliged}
 use Rattle.smtcomplete.specs.Facts.{sort_at, operand-of}
 use Rattle.smtcomplete.specs.Sources.{Made, node_made, source_of, source-any}

@@ -1,9 +1,9 @@
 -- Which choice lets a text follow, stage by stage.
-use Rattle.std.specs.Prelude.{Bool, true, false, cond, not, ◌&&◌, ◌||◌, List, ℕ, ◌+◌, ◌-◌, ◌*◌, ◌^◌, leb, ltb, eqb, get_or}
+use Rattle.std.specs.Prelude.{Bool, true, cond, not, ◌&&◌, ◌||◌, ℕ, ◌+◌, ◌-◌, ◌*◌, ◌^◌, leb, ltb, eqb, get_or}
 use Rattle.sorts.specs.Sorts.{is_bits, is_float, is_stored, is_word, pattern_width}
 use Rattle.smtgrammar.specs.declared.Place.{Place}
 use Rattle.smtgrammar.specs.declared.Line.{Line}
-use Rattle.smtgrammar.specs.State.{limit, Tables, State}
+use Rattle.smtgrammar.specs.State.{limit, Tables}
 use Rattle.smtgrammar.specs.Present.{below, some_float, some_word, some_from, joins, source, suits}
 
 -- the format whose patterns are w bits wide

@@ -1,5 +1,5 @@
 -- What a choice leads to: the next stage of the line, or its end, which adds to the tables.
-use Rattle.std.specs.Prelude.{Bool, cond, not, ◌&&◌, ◌||◌, List, ℕ, zero, suc, ◌+◌, ◌-◌, ◌*◌, ◌/◌, ◌%◌, ◌^◌, min, leb, ltb, eqb, get_or, set}
+use Rattle.std.specs.Prelude.{Bool, cond, not, ◌&&◌, ◌||◌, ℕ, zero, suc, ◌+◌, ◌-◌, ◌*◌, ◌/◌, ◌%◌, ◌^◌, min, leb, ltb, eqb, get_or, set}
 use Rattle.sorts.specs.Sorts.{is_float}
 use Rattle.needs.specs.Needed.{arity}
 use Rattle.smtgrammar.specs.declared.Place.{Place}

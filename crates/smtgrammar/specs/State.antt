@@ -1,5 +1,5 @@
 -- What is known in the middle of a text: the nodes so far, what they still oblige to, and the line that is being read.
-use Rattle.std.specs.Prelude.{List, [], ℕ, replicate}
+use Rattle.std.specs.Prelude.{List, ℕ, replicate}
 use Rattle.smtgrammar.specs.declared.Place.{Place}
 use Rattle.smtgrammar.specs.declared.Line.{Line}
 

@@ -1,5 +1,4 @@
 -- The text of each choice, stage by stage.
-use Prim.Native.String as str
 use Rattle.std.specs.Prelude.{cond, ◌&&◌, ◌||◌, List, [], ◌∷◌, ◌++◌, ℕ, ◌+◌, ◌-◌, leb, ltb, eqb, get_or}
 use Rattle.writing.specs.Bytes.{bytes, decimal}
 use Rattle.needs.specs.Needed.{arity}

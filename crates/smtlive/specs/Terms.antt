@@ -17,7 +17,7 @@ use Rattle.smtgrammar.specs.declared.Line.{Line}
 use Rattle.smtlive.specs.Closed.{none, ◌▸◌, each}
 use Rattle.smtlive.specs.Tests.{either, neither, or_left, or_right, and_both, and_left, and_right, by-eq}
 use Rattle.smtlive.specs.Sources.{source-some, some-float, some_word_lem, some-from, some-join, float-high}
-use Rattle.smtlive.specs.Live.{Kept, Defining, Sorted, Ready, seconds, Choosing, equal, convert, round, sorts, opens, chooses, first, places, digits, Live}
+use Rattle.smtlive.specs.Live.{Kept, Defining, Sorted, Ready, seconds, Choosing, equal, convert, round, opens, chooses, first, places, digits, Live}
 use Rattle.smtlive.specs.Operands.{resorted, make-fit, first_live}
 
 pub sort-live : (t : Tables) (p : Place) (l : Line) → Kept t p → Defining t p l → (v : ℕ) → sort_ok t p l v ≡ true

@@ -1,5 +1,6 @@
 // Reads SMT-LIB text of the subset: the nodes that it says, or the first byte from which no text of it can follow.
 #![tactic(auto)]
+
 mod next;
 mod rows;
 

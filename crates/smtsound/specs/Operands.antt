@@ -12,7 +12,6 @@ use Rattle.needs.specs.Needed.{arity}
 use Rattle.viable.specs.Grammar.{clash}
 use Rattle.smtgrammar.specs.declared.Place.{Place}
 use Rattle.smtgrammar.specs.State.{Tables}
-use Rattle.smtgrammar.specs.Present.{below}
 use Rattle.smtgrammar.specs.Allowed.{ok_at, sort_taken, operand_ok, first_ok, word_ok}
 use Rattle.smtgrammar.specs.Next.{next_at, defined, operand₀, operand₁, termed, word}
 use Rattle.smtsound.specs.Tables.{kind_in, sort_in}

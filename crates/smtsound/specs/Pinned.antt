@@ -1,5 +1,5 @@
 -- THE SECOND THEOREM: a run is determined by the nodes that it leaves.
-use Rattle.std.specs.Prelude.{◌≡◌, refl, Bool, true, false, cond, ◌&&◌, List, [], ◌∷◌, ◌++◌, ℕ, zero, suc, ◌≤◌, ◌<◌, leb, ltb, eqb}
+use Rattle.std.specs.Prelude.{◌≡◌, refl, Bool, true, false, cond, ◌&&◌, List, ◌++◌, ℕ, zero, suc, ◌<◌, leb, ltb, eqb}
 use Rattle.std.proofs.Common.{sym, subst, ap, ap₂, ◌∙◌, arith, eqb-true, ne_eqb, ltb-true}
 use Rattle.std.proofs.Math.Path.{fun_ext}
 use Rattle.std.proofs.lemmas.Bool.{eqb-false}
@@ -14,7 +14,7 @@ use Rattle.smtgrammar.specs.Grammar.{size_at, Token, done, Reads}
 use Rattle.smtsound.specs.Lines.{line, Sound}
 use Rattle.smtsound.specs.Steps.{kept_on, sound-start}
 use Rattle.smtsound.specs.Tables.{Is, kind_in, first_in, second_in, third_in, sort_in}
-use Rattle.smtsound.specs.Final.{Final, final, New, Said, Ends, kept}
+use Rattle.smtsound.specs.Final.{final, New, Said, Ends, kept}
 use Rattle.smtsound.specs.Back.{back, fixed}
 
 -- the same nodes: their rows and sorts

@@ -1,6 +1,6 @@
 -- A run of the grammar is the text of the nodes that it leaves.
-use Rattle.std.specs.Prelude.{◌≡◌, refl, Bool, true, false, cond, not, ◌&&◌, List, ℕ, ◌+◌, ◌*◌, ◌≤◌, ◌<◌, ltb, eqb}
-use Rattle.std.proofs.Common.{sym, ◌∙◌, add-zero, arith, eqb-true, ne_eqb, lt-ltb, le-ltb, ltb-true, ltb-false}
+use Rattle.std.specs.Prelude.{◌≡◌, refl, Bool, true, false, ◌&&◌, List, ℕ, ◌+◌, ◌*◌, ◌<◌, ltb, eqb}
+use Rattle.std.proofs.Common.{sym, ◌∙◌, add-zero, arith, eqb-true, ne_eqb, lt-ltb, ltb-true}
 use Rattle.std.proofs.Math.Path.{ap}
 use Rattle.std.proofs.lemmas.Bool.{eqb-false}
 use Rattle.std.proofs.Math.ListN.{get_or}
@@ -11,7 +11,7 @@ use Rattle.smttext.specs.Subset.{Says}
 use Rattle.smtgrammar.specs.State.{limit, Tables, State, start}
 use Rattle.smtgrammar.specs.Grammar.{Reads}
 use Rattle.smtgrammar.specs.Rows.{there}
-use Rattle.smtsound.specs.Tables.{Is, kind_in, first_in, second_in, third_in, sort_in}
+use Rattle.smtsound.specs.Tables.{Is, kind_in, first_in, second_in, third_in}
 use Rattle.smtsound.specs.Steps.{kept-through, sound-start}
 use Rattle.smtsound.specs.Lists.{row_of, list_of, marks_of, row_at, mark-at}
 use Rattle.smtsound.specs.Built.{Built, built}

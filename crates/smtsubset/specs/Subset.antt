@@ -8,14 +8,14 @@ use Rattle.sorts.specs.Laws.{passed-room, passes-less}
 use Rattle.sorts.specs.declared.Verdict.TheVariants.{Passed}
 use Rattle.needs.specs.Needed.{marks}
 use Rattle.needs.specs.Laws.{root-marked, kept}
-use Rattle.smttext.specs.Text.{text_by, text_of}
-use Rattle.smttext.specs.Subset.{Kept, Says, InSubset, compact}
+use Rattle.smttext.specs.Text.{text_of}
+use Rattle.smttext.specs.Subset.{Says, InSubset, compact}
 use Rattle.smtgrammar.specs.State.{State, start}
 use Rattle.smtgrammar.specs.Grammar.{Token, done, Reads}
 use Rattle.smtgrammar.specs.Rows.{rows_below}
 use Rattle.smtlive.specs.Apart.{apart}
 use Rattle.smtlive.specs.Full.{full}
-use Rattle.smtcomplete.specs.Complete.{Whole, complete}
+use Rattle.smtcomplete.specs.Complete.{complete}
 use Rattle.smtsubset.specs.Said.{left}
 
 -- a text leaves one state only

@@ -1,5 +1,5 @@
 -- The names of nodes, of sorts, of roundings.
-use Rattle.std.specs.Prelude.{Bool, cond, ◌||◌, List, ◌++◌, ℕ, ◌+◌, ◌*◌, ◌/◌, ◌%◌, leb, eqb, get_or}
+use Rattle.std.specs.Prelude.{Bool, cond, ◌||◌, List, ◌++◌, ℕ, ◌*◌, ◌/◌, ◌%◌, leb, eqb, get_or}
 use Rattle.sorts.specs.Lists.{field}
 use Rattle.writing.specs.Bytes.{bytes, decimal}
 

@@ -1,5 +1,4 @@
 -- What opens a term of a float's kind: the second half of the texts that open one.
-use Prim.Native.String as str
 use Rattle.std.specs.Prelude.{cond, List, ◌++◌, ℕ, eqb}
 use Rattle.writing.specs.Bytes.{bytes, decimal}
 use Rattle.smttext.specs.Names.{format_text}

@@ -1,5 +1,6 @@
 // One token of SMT-LIB text: which of the choices of the grammar stands at the front, or the first byte from which none can follow.
 #![tactic(auto)]
+
 mod guesses;
 mod matching;
 mod texts;

@@ -1,5 +1,6 @@
 // Writes what a root needs as SMT-LIB text: declarations, definitions, assertions.
 #![tactic(auto)]
+
 mod terms;
 
 ghost use Rattle.std.specs.Prelude.{◌≡◌, cond, ◌&&◌, [], ◌≤◌, get_or, take};

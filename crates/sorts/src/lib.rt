@@ -1,5 +1,6 @@
 // The table of sorts: the sort of a node from its row of four words (kind, a, b, c) and the sorts of its operands.
 #![tactic(auto)]
+
 ghost use Rattle.std.specs.Prelude.{◌≡◌, ◌&&◌, ◌+◌, ◌-◌, leb, ltb, eqb};
 ghost use Rattle.sorts.specs.Sorts.{when, is_bits, is_float, is_stored, is_word, pattern_width, sort_row};
 

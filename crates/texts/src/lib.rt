@@ -1,5 +1,6 @@
 // Texts of at most 32 bytes: trimming, letters without case, and the place on the stack that a text names.
 #![tactic(auto)]
+
 ghost use Rattle.std.specs.Prelude.{◌≡◌, ◌<◌, ◌≤◌, length, take, drop};
 ghost use Rattle.texts.specs.Bytes.{bytes_of, valid_of};
 ghost use Rattle.texts.specs.Letters.{lower_of, blank_is, skip, cut, trim_of, same_letters};

@@ -1,5 +1,6 @@
 // Numbers of up to 128 bits in two words. Each promise gives the words themselves, as those of a number.
 #![tactic(auto)]
+
 pub mod bytes;
 
 ghost use Rattle.std.specs.Prelude.{◌≡◌, ℕ, ◌*◌, ◌/◌, ◌%◌, ◌^◌, ltb, eqb};

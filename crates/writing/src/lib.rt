@@ -1,5 +1,6 @@
 // Writes text byte by byte: each function is given a place and gives back the next; bytes past the end of `out` are left out.
 #![tactic(auto)]
+
 ghost use Rattle.std.specs.Prelude.{[], ◌∷◌};
 ghost use Rattle.words.specs.Wide.{val};
 ghost use Rattle.writing.specs.Bytes.{digits, decimal, bits};

@@ -1,5 +1,6 @@
 // Reads records from standard input and writes their listing to standard output. With an argument it reads nothing and says its version or what it does.
 #![tactic(auto)]
+
 ghost use Rattle.std.specs.Prelude.{◌≤◌, length};
 ghost use Rattle.x87lift.specs.Arguments.{Asks};
 

@@ -1,4 +1,4 @@
-use Rattle.std.proofs.Common.{refl, ◌∙◌, ap, arith, ℕ, ◌-◌, length-set}
+use Rattle.std.proofs.Common.{refl, ◌∙◌, ap, arith, ℕ, length-set}
 use Rattle.evaluator.proofs.Column.{stored, beyond}
 use Rattle.evaluator.proofs.Node.{node_of}
 use Rattle.evaluator.specs.Laws.{vals-suc}

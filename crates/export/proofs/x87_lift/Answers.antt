@@ -15,6 +15,6 @@ unfolding laid
 returns-then-out-ge1 c =
     let k = c.if-out-ge1.true in
     elim c.if-flat-ge177.branch [
-      then-flat-ge177+else-state-ge13 w ↦ short-state _ _ _ _ _ k w.if-flat-ge177.true w.if-state-ge13.false _ refl
+      | then-flat-ge177+else-state-ge13 w ↦ short-state _ _ _ _ _ k w.if-flat-ge177.true w.if-state-ge13.false _ refl
       | else-flat-ge177 w ↦ short-flat _ _ _ _ _ k w.if-flat-ge177.false _ refl
     ]

@@ -1,4 +1,4 @@
-use Rattle.std.proofs.Common.{◌≡◌, ◌∙◌, arith, ◌-◌, length-set}
+use Rattle.std.proofs.Common.{◌≡◌, ◌∙◌, arith, length-set}
 use Rattle.image.proofs.Loops.{put-more, rest_more, put-ends}
 use Rattle.words.specs.Bytes.{bytes_of}
 use Rattle.words.specs.Wide.{val, val_of}

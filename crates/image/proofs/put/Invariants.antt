@@ -1,4 +1,4 @@
-use Rattle.std.proofs.Common.{◌++◌, ◌≡◌, ◌≤◌, ◌-◌, ◌+◌, take, drop, length}
+use Rattle.std.proofs.Common.{◌++◌, ◌≡◌, ◌≤◌, ◌-◌, take, drop, length}
 use Rattle.words.specs.Bytes.{bytes_of}
 use Rattle.words.specs.Wide.{val}
 use Rattle.image.proofs.put.Given as goal

@@ -1,7 +1,7 @@
 use Rattle.std.proofs.Common.{refl, ap, ◌≤◌, arith, length}
 use Rattle.lifter.proofs.Fitting.{no-nodes, no-statements, all-fits}
 use Rattle.lifter.specs.Lift.{lowered_of}
-use Rattle.lists.proofs.Sequence.{nodes, statements, still}
+use Rattle.lists.proofs.Sequence.{still}
 use Rattle.lists.specs.Rows.{room_of}
 use Rattle.lists.specs.declared.State.{State}
 use Rattle.lifter.proofs.fit_tight.Goals as goal

@@ -18,5 +18,5 @@ loop-g-preserved c =
     c.take-t.ensures.0 ∙ ap (λ (s : List ℕ). taken_at s at) c.loop-g.invariant.same_input in
     record {
       same_input = rw c.take-t.ensures.1 c.loop-g.invariant.same_input;
-      comes = rw c.take-t.ensures.2 (turned c.args.input.now at c.loop-g.g c.turn-g.result c.loop-g.nodes c.loop-g.statements c.turn-g.new.nodes c.turn-g.new.statements c.take-t.result e c.loop-g-test.true c.turn-g.ensures ∙ c.loop-g.invariant.comes)
+      comes = rw c.take-t.ensures.2 (turned c.args.input.now at c.loop-g.g c.turn-g.result c.loop-g.nodes c.loop-g.statements c.turn-g.new.nodes c.turn-g.new.statements c.take-t.result e c.loop-g-test.true c.turn-g.ensures ∙ c.loop-g.invariant.comes);
     }

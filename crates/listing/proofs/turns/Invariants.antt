@@ -7,7 +7,7 @@ abbrev pub invariant-loop-g : goal.invariant-loop-g
 invariant-loop-g l =
     record {
       same_input : l.r.input.now ≡ l.input;
-      comes : whole l.input l.r.at l.g l.nodes l.statements ≡ whole l.input 0 l.initial.g l.initial.nodes l.initial.statements
+      comes : whole l.input l.r.at l.g l.nodes l.statements ≡ whole l.input 0 l.initial.g l.initial.nodes l.initial.statements;
     }
 
 abbrev pub decreases-loop-g : goal.decreases-loop-g

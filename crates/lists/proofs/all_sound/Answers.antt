@@ -1,4 +1,4 @@
-use Rattle.std.proofs.Common.{arith, refl, ◌-◌, add-one}
+use Rattle.std.proofs.Common.{arith, refl, add-one}
 use Rattle.lists.specs.Valid.{all_sound}
 use Rattle.lists.proofs.all_sound.Goals as goal
 

@@ -1,4 +1,4 @@
-use Rattle.std.proofs.Common.{arith, refl, le-leb, ◌+◌, ◌-◌, ◌≤◌, ap}
+use Rattle.std.proofs.Common.{arith, refl, le-leb, ◌+◌, ◌≤◌, ap}
 use Rattle.lists.proofs.Lower.{deeper, turn, none}
 use Rattle.lists.proofs.Sequence.{then, same}
 use Rattle.lists.specs.Stack.{ensure_of}

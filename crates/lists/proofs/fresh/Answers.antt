@@ -1,4 +1,4 @@
-use Rattle.std.proofs.Common.{refl, ◌-◌}
+use Rattle.std.proofs.Common.{refl}
 use Rattle.lists.proofs.Sequence.{then, same}
 use Rattle.lists.specs.Nodes.{fresh_of}
 use Rattle.lists.proofs.fresh.Goals as goal

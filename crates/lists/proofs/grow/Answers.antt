@@ -1,4 +1,4 @@
-use Rattle.std.proofs.Common.{lt-ltb, le-ltb, ◌-◌}
+use Rattle.std.proofs.Common.{lt-ltb, le-ltb}
 use Rattle.lists.specs.Stack.{grown}
 use Rattle.lists.proofs.grow.Goals as goal
 

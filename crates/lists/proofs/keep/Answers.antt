@@ -1,4 +1,4 @@
-use Rattle.std.proofs.Common.{le-leb, ◌-◌}
+use Rattle.std.proofs.Common.{le-leb}
 use Rattle.lists.specs.Stack.{kept}
 use borrow.Author.Tests.{lt-leb}
 use Rattle.lists.proofs.keep.Goals as goal

@@ -1,4 +1,4 @@
-use Rattle.std.proofs.Common.{arith, ◌-◌}
+use Rattle.std.proofs.Common.{arith}
 use Rattle.lists.specs.Rows.{up}
 use Rattle.lists.proofs.next.Goals as goal
 

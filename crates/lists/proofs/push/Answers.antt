@@ -1,4 +1,4 @@
-use Rattle.std.proofs.Common.{refl, le-leb, ◌-◌}
+use Rattle.std.proofs.Common.{refl, le-leb}
 use Rattle.lists.specs.Stack.{push_of, overflows}
 use borrow.Author.Tests.{lt-leb}
 use Rattle.lists.proofs.push.Goals as goal

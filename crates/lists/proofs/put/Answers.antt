@@ -1,4 +1,4 @@
-use Rattle.std.proofs.Common.{arith, le-leb, ◌+◌, ◌-◌, ◌*◌, ◌≤◌, ◌<◌, length}
+use Rattle.std.proofs.Common.{arith, le-leb, ◌+◌, ◌*◌, ◌≤◌, ◌<◌, length}
 use Rattle.lists.specs.Rows.{wrote, stored}
 use borrow.Author.Tests.{lt-leb}
 use Rattle.lists.proofs.put.Goals as goal

@@ -1,4 +1,4 @@
-use Rattle.std.proofs.Common.{arith, ◌-◌}
+use Rattle.std.proofs.Common.{arith}
 use Rattle.lists.specs.Rows.{room_of}
 use Rattle.lists.proofs.room.Goals as goal
 

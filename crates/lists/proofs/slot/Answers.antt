@@ -1,4 +1,4 @@
-use Rattle.std.proofs.Common.{le-leb, ◌-◌}
+use Rattle.std.proofs.Common.{le-leb}
 use Rattle.lists.specs.Stack.{slot_of}
 use borrow.Author.Tests.{lt-leb}
 use Rattle.lists.proofs.slot.Goals as goal

@@ -1,4 +1,4 @@
-use Rattle.std.proofs.Common.{lt-ltb, le-ltb, ◌-◌}
+use Rattle.std.proofs.Common.{lt-ltb, le-ltb}
 use Rattle.lists.specs.Valid.{sound_of}
 use Rattle.lists.proofs.sound.Goals as goal
 

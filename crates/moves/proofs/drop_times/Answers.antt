@@ -1,4 +1,4 @@
-use Rattle.std.proofs.Common.{arith, refl, ap, ◌∙◌, ◌-◌, add-one}
+use Rattle.std.proofs.Common.{arith, refl, ap, ◌∙◌, add-one}
 use Rattle.lists.specs.Stack.{drop_top_of}
 use Rattle.moves.specs.Moves.{dropped_times}
 use Rattle.moves.proofs.drop_times.Goals as goal

@@ -1,4 +1,4 @@
-use Rattle.std.proofs.Common.{rules, sym, ◌∙◌, ◌-◌, arith, length-set}
+use Rattle.std.proofs.Common.{rules, sym, ◌∙◌, arith, length-set}
 use Rattle.records.proofs.Letters.{letters-on, letters-end, letters-text, zeros-on}
 use Rattle.records.proofs.Sequence.{then}
 use Rattle.records.specs.Format.{text_at}

@@ -1,4 +1,4 @@
-use Rattle.std.proofs.Common.{arith, sym, ◌∙◌, ◌-◌}
+use Rattle.std.proofs.Common.{arith, sym, ◌∙◌}
 use Rattle.smtreader.specs.Held.{held-ends}
 use Rattle.smtreader.specs.Ran.{begun, read_all, too_short, ready, on, more, inside, stops, within}
 use Rattle.smtreader.proofs.run.Goals as goal
@@ -59,8 +59,9 @@ loop-at-preserved c =
         seconds = N.fb ∙ L.invariant.wide.seconds;
         thirds = N.fc ∙ L.invariant.wide.thirds;
         sorts = N.sorts ∙ L.invariant.wide.sorts;
-        lowest = N.lowest ∙ L.invariant.wide.lowest };
-      node = (let e = N.kinds ∙ L.invariant.wide.kinds in omega arith)
+        lowest = N.lowest ∙ L.invariant.wide.lowest;
+      };
+      node = (let e = N.kinds ∙ L.invariant.wide.kinds in omega arith);
     }
 
 pub returns-then-is_done : goal.returns-then-is_done

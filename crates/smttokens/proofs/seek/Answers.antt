@@ -1,4 +1,4 @@
-use Rattle.std.proofs.Common.{arith, ◌-◌}
+use Rattle.std.proofs.Common.{arith}
 use Rattle.smtgrammar.specs.Allowed.{ok_at}
 use Rattle.smtgrammar.specs.Grammar.{size_at}
 use Rattle.smtgrammar.specs.Tokens.{text_at}

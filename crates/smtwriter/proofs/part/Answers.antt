@@ -1,4 +1,4 @@
-use Rattle.std.proofs.Common.{◌-◌, arith}
+use Rattle.std.proofs.Common.{arith}
 use Rattle.smttext.specs.Text.{part}
 use Rattle.smtwriter.proofs.Lines.{line_on}
 use Rattle.writing.specs.Laws.{nothing}

@@ -1,4 +1,4 @@
-use Rattle.std.proofs.Common.{rules, sym, ◌∙◌, ◌-◌}
+use Rattle.std.proofs.Common.{rules, sym, ◌∙◌}
 use Rattle.texts.proofs.Trims.{cut_on, cut-stop, cut-end}
 use Rattle.texts.proofs.back.Goals as goal
 

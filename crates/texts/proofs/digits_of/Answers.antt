@@ -1,4 +1,4 @@
-use Rattle.std.proofs.Common.{sym, ◌∙◌, ◌-◌, drop}
+use Rattle.std.proofs.Common.{sym, ◌∙◌, drop}
 use Rattle.texts.proofs.Readings.{digits-big}
 use Rattle.texts.proofs.digits_of.Goals as goal
 

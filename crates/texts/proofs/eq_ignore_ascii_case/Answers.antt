@@ -1,4 +1,4 @@
-use Rattle.std.proofs.Common.{sym, ◌∙◌, ◌-◌}
+use Rattle.std.proofs.Common.{sym, ◌∙◌}
 use Rattle.texts.proofs.Trims.{same-short, same_more}
 use Rattle.texts.proofs.eq_ignore_ascii_case.Goals as goal
 

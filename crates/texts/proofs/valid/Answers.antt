@@ -1,4 +1,4 @@
-use Rattle.std.proofs.Common.{refl, ◌-◌, arith, le-leb}
+use Rattle.std.proofs.Common.{refl, arith, le-leb}
 use Rattle.texts.proofs.Every.{all-off, all_end}
 use Rattle.texts.specs.Bytes.{ascii_is, valid_of}
 use borrow.Author.Tests.{lt-leb}

@@ -1,4 +1,4 @@
-use Rattle.std.proofs.Common.{◌-◌, arith}
+use Rattle.std.proofs.Common.{arith}
 use Rattle.writing.proofs.Parts.{take_more}
 use Rattle.writing.specs.Laws.{then, also}
 use Rattle.writing.proofs.all.Goals as goal

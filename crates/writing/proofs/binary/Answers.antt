@@ -1,4 +1,4 @@
-use Rattle.std.proofs.Common.{◌-◌, arith}
+use Rattle.std.proofs.Common.{arith}
 use Rattle.writing.proofs.Parts.{bits-more, bits_none}
 use Rattle.writing.specs.Laws.{then, also, nothing}
 use Rattle.writing.proofs.binary.Goals as goal

@@ -1,4 +1,4 @@
-use Rattle.std.proofs.Common.{refl, sym, ◌∙◌, arith, ◌-◌}
+use Rattle.std.proofs.Common.{refl, sym, ◌∙◌, arith}
 use Rattle.evaluator.proofs.Filled.{front, long, stored, no_room, faulty, sorted}
 use Rattle.lists.specs.Rows.{room_of}
 use Rattle.sorts.specs.Check.{first_fault}

@@ -1,4 +1,4 @@
-use Rattle.std.proofs.Common.{rules, refl, ◌-◌, arith, length-set}
+use Rattle.std.proofs.Common.{rules, refl, arith, length-set}
 use Rattle.export.proofs.Places.{laid_none, laid_on}
 use Rattle.export.proofs.flat.put_bytes.Goals as goal
 

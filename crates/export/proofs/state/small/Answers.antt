@@ -1,4 +1,4 @@
-use Rattle.std.proofs.Common.{rules, refl, sym, ◌∙◌, ◌-◌, arith, lt-ltb, le-ltb}
+use Rattle.std.proofs.Common.{rules, refl, sym, ◌∙◌, arith, lt-ltb, le-ltb}
 use Rattle.export.specs.Lifts.{small_is}
 use Rattle.texts.proofs.Every.{all-on, all-off}
 use Rattle.export.proofs.state.small.Goals as goal

@@ -1,4 +1,4 @@
-use Rattle.std.proofs.Common.{rules, sym, ◌∙◌, ◌-◌}
+use Rattle.std.proofs.Common.{rules, sym, ◌∙◌}
 use Rattle.forms.proofs.Lookup.{code-on, code-stop, code-end}
 use Rattle.forms.proofs.names.code_in.Goals as goal
 

@@ -1,4 +1,4 @@
-use Rattle.std.proofs.Common.{true, ◌-◌, arith, get_or}
+use Rattle.std.proofs.Common.{◌-◌, arith, get_or}
 use Rattle.forms.proofs.Lookup.{key-small, key-zero, key-long, key-whole, lower-byte}
 use Rattle.forms.proofs.names.key.Goals as goal
 

@@ -1,4 +1,4 @@
-use Rattle.std.proofs.Common.{◌≡◌, true, map, ◌≤◌, ◌-◌, length, drop}
+use Rattle.std.proofs.Common.{◌≡◌, true, map, ◌≤◌, length, drop}
 use Rattle.forms.specs.Inside.Keys.{lower_is}
 use Rattle.texts.specs.Bytes.{all}
 use Rattle.texts.specs.Letters.{lower_of}

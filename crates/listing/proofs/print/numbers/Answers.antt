@@ -1,4 +1,4 @@
-use Rattle.std.proofs.Common.{◌-◌, arith}
+use Rattle.std.proofs.Common.{arith}
 use Rattle.listing.proofs.Writing.{numbers-take}
 use Rattle.listing.specs.Text.{numbers}
 use Rattle.writing.specs.Laws.{then, also, nothing}

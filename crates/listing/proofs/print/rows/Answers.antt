@@ -1,4 +1,4 @@
-use Rattle.std.proofs.Common.{◌-◌, arith}
+use Rattle.std.proofs.Common.{arith}
 use Rattle.listing.proofs.Writing.{row_on}
 use Rattle.listing.specs.Text.{rows}
 use Rattle.writing.specs.Laws.{nothing}

@@ -1,6 +1,5 @@
 use Rattle.listing.proofs.Writing.{few-places, all-places}
 use Rattle.listing.specs.Listing.{state_line}
-use Rattle.listing.specs.Text.{line}
 use Rattle.writing.specs.Laws.{also}
 use Rattle.listing.proofs.print.state_line.Goals as goal
 

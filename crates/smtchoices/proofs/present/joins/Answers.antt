@@ -1,4 +1,4 @@
-use Rattle.std.proofs.Common.{sym, ◌∙◌, ◌-◌}
+use Rattle.std.proofs.Common.{sym, ◌∙◌}
 use Rattle.smtchoices.proofs.Lowest.{join-here, join-on, join-none}
 use Rattle.smtchoices.proofs.present.joins.Goals as goal
 

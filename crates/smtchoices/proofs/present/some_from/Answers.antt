@@ -1,4 +1,4 @@
-use Rattle.std.proofs.Common.{sym, ◌∙◌, ◌-◌}
+use Rattle.std.proofs.Common.{sym, ◌∙◌}
 use Rattle.smtchoices.proofs.Lowest.{some-here, some-on, some-none}
 use Rattle.smtchoices.proofs.present.some_from.Goals as goal
 

@@ -1,4 +1,4 @@
-use Rattle.std.proofs.Common.{◌-◌, eq-eqb, ne_eqb, sym, ◌∙◌}
+use Rattle.std.proofs.Common.{eq-eqb, ne_eqb, sym, ◌∙◌}
 use Rattle.smtgrammar.specs.Next.{due_from}
 use Rattle.smtreader.proofs.Seek.{reads, seek-here, seek-on, seek-none}
 use Rattle.smtreader.proofs.next.due_from.Goals as goal

@@ -1,4 +1,4 @@
-use Rattle.std.proofs.Common.{◌-◌, sym, ◌∙◌}
+use Rattle.std.proofs.Common.{sym, ◌∙◌}
 use Rattle.smtgrammar.specs.Next.{owed_from}
 use Rattle.smtreader.proofs.Seek.{obliges, seek-here, seek-on, seek-none}
 use Rattle.smtreader.proofs.next.owed_from.Goals as goal

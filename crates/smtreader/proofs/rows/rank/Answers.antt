@@ -1,4 +1,4 @@
-use Rattle.std.proofs.Common.{length-set, ◌-◌, [], arith, refl}
+use Rattle.std.proofs.Common.{length-set, [], arith, refl}
 use Rattle.smtchoices.specs.Seen.{seen}
 use Rattle.smtgrammar.specs.Rows.{rank_at}
 use Rattle.smtreader.proofs.Ranks.{rank-next, rank_most, rank-on}

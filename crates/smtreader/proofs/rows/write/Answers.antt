@@ -1,4 +1,4 @@
-use Rattle.std.proofs.Common.{◌-◌, [], arith, refl}
+use Rattle.std.proofs.Common.{[], arith, refl}
 use Rattle.smtgrammar.specs.Rows.{rank_at, rows_below}
 use Rattle.smtreader.proofs.Ranks.{write-on, room-on, written}
 use Rattle.smtreader.specs.Inside.{tables_of}

@@ -1,4 +1,3 @@
-use Rattle.std.proofs.Common.{arith}
 use Rattle.writing.specs.Bytes.{digits}
 use Rattle.writing.proofs.Parts.{few, many}
 use Rattle.smttokens.specs.Matches.{then, also, nothing}
