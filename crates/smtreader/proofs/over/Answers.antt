@@ -5,9 +5,8 @@ use Rattle.smtreader.proofs.over.Goals as goal
 pub rows-requires : goal.rows-requires
 rows-requires c =
     let h = rw c.in-Nodes.is at c.run-r.ensures in
-    let k = c.run-r.auto in
-    let s = k.1.1.1.1.1.0 ∙ c.requires.wide.sorts in
-    (let m = c.requires.most in omega arith, fits_in _ h _ _ c.room.ensures c.if-room-n.false _ (k.1.0 ∙ sym s))
+    let s = c.run-r.auto.sorts ∙ c.requires.wide.sorts in
+    (let m = c.requires.most in omega arith, fits_in _ h _ _ c.room.ensures c.if-room-n.false _ (c.run-r.auto.kinds ∙ sym s))
 
 pub returns-else-room-n : goal.returns-else-room-n
 returns-else-room-n c =

@@ -1,4 +1,4 @@
-use Rattle.std.proofs.Common.{◌-◌, ◌≡◌}
+use Rattle.std.proofs.Common.{[], ◌-◌, ◌≡◌}
 use Rattle.smtchoices.specs.Seen.{seen}
 use Rattle.smtgrammar.specs.Next.{owed_from}
 use Rattle.smtreader.proofs.next.owed_from.Given as goal

@@ -1,4 +1,4 @@
-use Rattle.std.proofs.Common.{length, get_or, ℕ, ◌-◌, ◌≤◌, ◌<◌, ◌≡◌}
+use Rattle.std.proofs.Common.{[], length, get_or, ℕ, ◌-◌, ◌≤◌, ◌<◌, ◌≡◌}
 use Rattle.smtchoices.specs.Seen.{seen}
 use Rattle.smtgrammar.specs.Rows.{rank_at}
 use Rattle.smtreader.proofs.rows.rank.Given as goal

@@ -1,4 +1,4 @@
-use Rattle.std.proofs.Common.{◌-◌, ◌*◌, ◌≤◌, ◌≡◌}
+use Rattle.std.proofs.Common.{[], ◌-◌, ◌*◌, ◌≤◌, ◌≡◌}
 use Rattle.smtgrammar.specs.Rows.{rank_at, rows_below}
 use Rattle.smtreader.specs.Inside.{tables_of}
 use lib.Seq.{sets}
