@@ -16,7 +16,6 @@ use Rattle.forms.specs.declared.Classified.TheVariants.{Modelled, Declined, BadT
 use Rattle.details.specs.Why.{unknown_name, wrong_count, wrong_kind, unknown_address, wrong_width, why_of}
 use Rattle.details.proofs.Shapes.{by_shape}
 pub mod Families
-pub mod Said
 use Families.{declined_is, some_is, exactly}
 
 -- k is the number of the first reason that holds

@@ -2,7 +2,6 @@
 use Rattle.std.specs.Prelude.{Bool, false, cond, ◌&&◌, ◌||◌, List, ℕ, ◌*◌, leb, eqb, get_or}
 use Rattle.sorts.specs.Sorts.{is_bits}
 use Rattle.sorts.specs.Lists.{field}
-pub mod Laws
 
 -- Node v is bits of this width
 unfoldable pub is_wide : List ℕ → ℕ → ℕ → Bool

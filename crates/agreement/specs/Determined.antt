@@ -6,7 +6,7 @@ use Rattle.std.specs.Prelude.{◌≡◌, refl, Bool, true, false, cond, List, []
 use Rattle.std.proofs.Common.{sym, ap, ◌∙◌}
 use Rattle.std.proofs.lemmas.List.Edits.{sets}
 use seplogic.Ra.Ura.{Ura}
-use prog.Wp.{Heap}
+use types.Logic.{Logic}
 use contract.Notation.{connectives}
 use Rattle.std.specs.Borrow.{Bor}
 use Rattle.records.specs.Format.{taken_at}
@@ -314,23 +314,23 @@ records·read-record κ a r s x y = one
 
 -- reader
 
-pub reader·new-says : {M : Type 1} (𝓤 : Ura M) (H : Heap 𝓤) (A : _) (memory : _) (run : _) (κ : _) (a : _) (t : _) (e : _)
-    → (Rattle.reader.specs.contracts.new.clauses 𝓤 H A memory run κ a).ensures tt t e ≡ (connectives 𝓤).⌜◌⌝ (At a.0 0 t)
-reader·new-says 𝓤 H A memory run κ a t e = refl
+pub reader·new-says : {M : Type 1} {𝓤 : Ura M} (𝓛 : Logic 𝓤) (memory : _) (run : _) (κ : _) (a : _) (t : _) (e : _)
+    → (Rattle.reader.specs.contracts.new.clauses 𝓛 memory run κ a).ensures tt t e ≡ (connectives 𝓤).⌜◌⌝ (At a.0 0 t)
+reader·new-says 𝓛 memory run κ a t e = refl
 
 pub reader·new : (input : Bor (List ℕ)) (at : ℕ) (r s : Reader) → At input at r → At input at s → r ≡ s
 reader·new = placed
 
-pub reader·moved-says : {M : Type 1} (𝓤 : Ura M) (H : Heap 𝓤) (A : _) (memory : _) (run : _) (κ : _) (a : _) (t : _) (e : _)
-    → (Rattle.reader.specs.contracts.moved.clauses 𝓤 H A memory run κ a).ensures tt t e ≡ (connectives 𝓤).⌜◌⌝ (At a.0.input a.1.0 t)
-reader·moved-says 𝓤 H A memory run κ a t e = refl
+pub reader·moved-says : {M : Type 1} {𝓤 : Ura M} (𝓛 : Logic 𝓤) (memory : _) (run : _) (κ : _) (a : _) (t : _) (e : _)
+    → (Rattle.reader.specs.contracts.moved.clauses 𝓛 memory run κ a).ensures tt t e ≡ (connectives 𝓤).⌜◌⌝ (At a.0.input a.1.0 t)
+reader·moved-says 𝓛 memory run κ a t e = refl
 
 pub reader·moved : (input : Bor (List ℕ)) (at : ℕ) (r s : Reader) → At input at r → At input at s → r ≡ s
 reader·moved = placed
 
-pub reader·take-says : {M : Type 1} (𝓤 : Ura M) (H : Heap 𝓤) (A : _) (memory : _) (run : _) (κ : _) (a : _) (t : _) (e : _)
-    → (Rattle.reader.specs.contracts.take.clauses 𝓤 H A memory run κ a).ensures tt t e ≡ (connectives 𝓤).⌜◌⌝ (Takes a.0.now t e.0.now)
-reader·take-says 𝓤 H A memory run κ a t e = refl
+pub reader·take-says : {M : Type 1} {𝓤 : Ura M} (𝓛 : Logic 𝓤) (memory : _) (run : _) (κ : _) (a : _) (t : _) (e : _)
+    → (Rattle.reader.specs.contracts.take.clauses 𝓛 memory run κ a).ensures tt t e ≡ (connectives 𝓤).⌜◌⌝ (Takes a.0.now t e.0.now)
+reader·take-says 𝓛 memory run κ a t e = refl
 
 pub reader·take : (r : Reader) (t u : Taken) (x y : Reader) → Takes r t x → Takes r u y → (t ≡ u) × (x ≡ y)
 reader·take = taken

@@ -12,30 +12,13 @@ use Rattle.export.specs.Flat.{insn_of, flat_of, laid}
 use Rattle.export.specs.Answers.{ReadsRecord}
 use Rattle.export.specs.Lifts.{lifted_of}
 use Rattle.export.specs.Steps.{Stepped, stepped_of, step_of}
+use Rattle.agreement.specs.Handed.Carries.{Bytes, taken-fits}
+use Rattle.agreement.specs.Handed.Flat.{laid-at, insn-at}
 pub mod Carries
 pub mod Flat
-use Carries.{Bytes, taken-fits}
-use Flat.{laid-at, insn-at}
 
 -- What was written for the instruction at a place is read back as it
 pub read_back : (input flat : List ℕ) (at : ℕ) → Bytes input → 177 ≤ length flat → let i = (taken_at input at).insn in insn_of (laid flat 0 (flat_of i)) ≡ i
 read_back input flat at b e =
     let f = taken-fits input at b in
     insn-at _ _ (laid-at flat _ e f) f
-
-either-lifted : (b : Bool) (x y : Stepped) → cond b x.lifted y.lifted ≡ (cond b x y).lifted
-either-lifted true x y = refl
-either-lifted false x y = refl
-
--- The bytes that the reading leaves, lifted, and the record lifted
-pub two-calls : (input flat out : List ℕ) (at r : ℕ) (flat_left out_left : List ℕ) (c : Cursor) (s n t : List ℕ)
-    → Bytes input → 177 ≤ length flat → 2 ≤ length out
-    → (taken_at input at).outcome ≡ Record c → ReadsRecord (taken_at input at) flat out r flat_left out_left
-    → lifted_of flat_left s n t ≡ (stepped_of (taken_at input at) at s n t).lifted
-unfolding lifted_of stepped_of step_of laid
-two-calls input flat out at r flat_left out_left c s n t b e h o w =
-    let i = (taken_at input at).insn in
-    let l : flat_left ≡ laid flat 0 (flat_of i) = w.bytes ∙ rw (o, le-leb _ _ e, le-leb _ _ h) in
-    let z : 177 ≤ length flat_left = omega (arith, ap length l, length-sets flat 0 (flat_of i)) in
-    let q : insn_of flat_left ≡ i = ap insn_of l ∙ read_back input flat at b e in
-    rw (o, le-leb _ _ z, q) (either-lifted (leb 13 (length s)) _ _)

@@ -2,8 +2,11 @@
 #![tactic(auto)]
 
 ghost use Rattle.std.specs.Prelude.{◌≡◌, ◌+◌, ◌≤◌, ◌<◌, length};
+ghost use Rattle.std.specs.Io.{ReadsAtMost};
 
-use libc::STDOUT_FILENO;
+use std::io::{Print, Read};
+use std::rt::Files;
+use std::{fs, io};
 
 // Whose rows are read, one of the files in data/.
 #[derive(Clone, Copy)]
@@ -154,7 +157,7 @@ fn record_equal(head: &[u8], input: &[u8]) -> bool
     if answer as u64 == wide(head[4]) {
         if out[0] == place as u64 {
             if out[1] == wide(head[7]) {
-                return check::same(&flat, &head[8..185]);
+                return flat.as_slice() == &head[8..185];
             }
         }
     }
@@ -306,7 +309,7 @@ fn image_equal(head: &[u8]) -> bool
     export::values::x87_image_write(&mut image, out[0], out[1]);
     if answer as u64 == wide(head[26]) {
         if words_equal(&out, &head[27..43], 8) {
-            return check::same(&image, &head[43..53]);
+            return image.as_slice() == &head[43..53];
         }
     }
     false
@@ -368,75 +371,88 @@ fn tail_size(file: File, head: &[u8; 289]) -> usize
     }
 }
 
+// Reads until a buffer is full or the input ends, and gives how many bytes it put at the buffer's start.
+fn read_full(from: &mut impl Read, buf: &mut [u8]) -> io::Result<usize>
+    ensures { ReadsAtMost result buf.new }
+{
+    let mut done = 0;
+    while done < buf.len() {
+        let n = from.read(&mut buf[done..])?;
+        if n == 0 {
+            break;
+        }
+        done += n;
+    }
+    Ok(done)
+}
+
 // Reads a row's tail, which fills a part, and compares.
-fn rest(fd: i32, file: File, head: &[u8; 289], part: &mut [u8]) -> Turn {
-    let got = io::read_full(fd, part);
+fn rest(from: &mut impl Read, file: File, head: &[u8; 289], part: &mut [u8]) -> io::Result<Turn> {
+    let got = read_full(from, part)?;
     if got < part.len() {
-        return Turn::Different;
+        return Ok(Turn::Different);
     }
     if row_equal(file, head, part) {
-        return Turn::Equal;
+        return Ok(Turn::Equal);
     }
-    Turn::Different
+    Ok(Turn::Different)
 }
 
 // Reads a row and compares.
-fn next_turn(fd: i32, file: File) -> Turn {
+fn next_turn(from: &mut impl Read, file: File) -> io::Result<Turn> {
     let mut head = [0u8; 289];
-    let mut tail = io::large_buffer();
+    let mut tail = [0u8; 65536];
     let size = head_size(file);
-    let n = io::read_full(fd, &mut head[0..size]);
+    let n = read_full(from, &mut head[0..size])?;
     if n == 0 {
-        return Turn::End;
+        return Ok(Turn::End);
     }
     if n < size {
-        return Turn::Different;
+        return Ok(Turn::Different);
     }
     let more = tail_size(file, &head);
-    rest(fd, file, &head, &mut tail[0..more])
+    rest(from, file, &head, &mut tail[0..more])
 }
 
 // How many rows were equal, up to the end or to the first that differs.
-fn say(rows: u64, equal: bool) {
-    io::print_decimal(STDOUT_FILENO, rows);
+fn say(rt: &impl Print, rows: u64, equal: bool) -> io::Result<()> {
     if equal {
-        io::write_all(STDOUT_FILENO, b" equal\n");
+        println!(rt; "{rows} equal")
     } else {
-        io::write_all(STDOUT_FILENO, b" equal, and then one differs\n");
+        println!(rt; "{rows} equal, and then one differs")
     }
 }
 
 // Every row of a file: a proved loop has to end, so it stops after a million.
-fn rows(fd: i32, file: File) {
+fn rows(rt: &impl Print, from: &mut impl Read, file: File) -> io::Result<()> {
     let mut n: u64 = 0;
     while n < 1000000 {
-        match next_turn(fd, file) {
+        match next_turn(from, file)? {
             Turn::Equal => n += 1,
-            Turn::Different => {
-                say(n, false);
-                return;
-            }
-            Turn::End => {
-                say(n, true);
-                return;
-            }
+            Turn::Different => return say(rt, n, false),
+            Turn::End => return say(rt, n, true),
         }
     }
-    say(n, false);
+    say(rt, n, false)
 }
 
 // All rows of one file.
-fn replay(file: File, path: &[u8], name: &[u8]) {
-    let fd = os::open_read(path);
-    io::write_all(STDOUT_FILENO, name);
-    rows(fd, file);
+fn replay(rt: &(impl Files + Print), file: File, path: &str, name: &[u8]) -> io::Result<()> {
+    let mut from = fs::open(rt, path)?;
+    rt.write_all(name)?;
+    rows(rt, &mut from, file)
 }
 
-fn main() {
-    replay(File::Instructions, b"instructions.bin", b"instructions ");
-    replay(File::Records, b"records.bin", b"records ");
-    replay(File::Lifts, b"lifts.bin", b"lifts ");
-    replay(File::Checks, b"checks.bin", b"checks ");
-    replay(File::Values, b"values.bin", b"values ");
-    replay(File::Images, b"images.bin", b"images ");
+fn main(rt: HostRuntime) -> io::Result<()> {
+    replay(
+        &rt,
+        File::Instructions,
+        "instructions.bin",
+        b"instructions ",
+    )?;
+    replay(&rt, File::Records, "records.bin", b"records ")?;
+    replay(&rt, File::Lifts, "lifts.bin", b"lifts ")?;
+    replay(&rt, File::Checks, "checks.bin", b"checks ")?;
+    replay(&rt, File::Values, "values.bin", b"values ")?;
+    replay(&rt, File::Images, "images.bin", b"images ")
 }

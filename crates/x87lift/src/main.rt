@@ -2,10 +2,13 @@
 #![tactic(auto)]
 
 ghost use Rattle.std.specs.Prelude.{◌≤◌, length};
+ghost use Rattle.std.specs.Io.{ReadsAtMost};
 ghost use Rattle.x87lift.specs.Arguments.{Asks};
 
-use libc::{STDIN_FILENO, STDOUT_FILENO};
 use listing::Listed;
+use std::env::{Env, FillError};
+use std::io;
+use std::io::{Input, Print, Read};
 
 // What the program is asked for.
 #[derive(Clone, Copy)]
@@ -22,34 +25,61 @@ fn asked_for(count: usize, first: &[u8]) -> Asked
     if count <= 1 {
         return Asked::Run;
     }
-    if check::same(first, b"--version") {
+    if first == b"--version".as_slice() {
         return Asked::Version;
     }
     Asked::Help
 }
 
 // Writes a text to standard output.
-fn say(text: &[u8]) {
-    io::write_all(STDOUT_FILENO, text);
+fn say(rt: &impl Print, text: &[u8]) -> io::Result<()> {
+    rt.write_all(text)
 }
 
 // What the program reads and writes, and its limits.
-fn help() {
-    say(b"usage: x87lift < RECORDS > LISTING\n");
-    say(b"       x87lift --version\n");
-    say(b"\n");
-    say(b"Reads a record for each decoded x87 instruction and an end mark, at most 16,384\n");
-    say(b"bytes, from standard input, and lifts the instructions into formulas. x87rec\n");
-    say(b"makes such records of a disassembly.\n");
-    say(b"\n");
-    say(b"Writes a listing of decimal numbers to standard output:\n");
-    say(b"  n NUMBER KIND A B C                   a node, at most 1,024\n");
-    say(b"  s NUMBER KIND A B C                   a statement, at most 256\n");
-    say(b"  d DEPTH INPUTS TEMPORARIES SLOT..     the state behind the last instruction\n");
-    say(b"  r NUMBER PLACE                        why the run stopped, and at which byte\n");
-    say(b"x87show turns a listing into formulas that a person can read.\n");
-    say(b"\n");
-    say(b"The exit status cannot be set: that a run was refused is told by the row r.\n");
+fn help(rt: &impl Print) -> io::Result<()> {
+    say(rt, b"usage: x87lift < RECORDS > LISTING\n")?;
+    say(rt, b"       x87lift --version\n")?;
+    say(rt, b"\n")?;
+    say(
+        rt,
+        b"Reads a record for each decoded x87 instruction and an end mark, at most 16,384\n",
+    )?;
+    say(
+        rt,
+        b"bytes, from standard input, and lifts the instructions into formulas. x87rec\n",
+    )?;
+    say(rt, b"makes such records of a disassembly.\n")?;
+    say(rt, b"\n")?;
+    say(
+        rt,
+        b"Writes a listing of decimal numbers to standard output:\n",
+    )?;
+    say(
+        rt,
+        b"  n NUMBER KIND A B C                   a node, at most 1,024\n",
+    )?;
+    say(
+        rt,
+        b"  s NUMBER KIND A B C                   a statement, at most 256\n",
+    )?;
+    say(
+        rt,
+        b"  d DEPTH INPUTS TEMPORARIES SLOT..     the state behind the last instruction\n",
+    )?;
+    say(
+        rt,
+        b"  r NUMBER PLACE                        why the run stopped, and at which byte\n",
+    )?;
+    say(
+        rt,
+        b"x87show turns a listing into formulas that a person can read.\n",
+    )?;
+    say(rt, b"\n")?;
+    say(
+        rt,
+        b"The exit status cannot be set: that a run was refused is told by the row r.\n",
+    )
 }
 
 // How many bytes of text there are to write.
@@ -67,26 +97,63 @@ fn written(l: Listed, room: usize) -> usize
     }
 }
 
+// Reads until a buffer is full or the input ends, and gives how many bytes it put at the buffer's start.
+fn read_full(from: &mut impl Read, buf: &mut [u8]) -> io::Result<usize>
+    ensures { ReadsAtMost result buf.new }
+{
+    let mut done = 0;
+    while done < buf.len() {
+        let n = from.read(&mut buf[done..])?;
+        if n == 0 {
+            break;
+        }
+        done += n;
+    }
+    Ok(done)
+}
+
 // An input over 16,384 bytes is refused, so that one more is enough to tell. No listing is longer than the room for it (listed-fits in agreement).
-fn lift() {
+fn lift(rt: &(impl Input + Print)) -> io::Result<()> {
     let mut input = [0u8; 16385];
     let mut nodes = [0u64; 4096];
     let mut statements = [0u64; 1024];
     let mut out = [0u8; 139264];
-    let n = io::read_full(STDIN_FILENO, &mut input);
+    let mut from = rt.reader();
+    let n = read_full(&mut from, &mut input)?;
     let run = listing::run(&input[0..n], &mut nodes, &mut statements);
     let text = listing::list(&nodes, &statements, run, &mut out);
     let k = written(text, 139264);
-    io::write_all(STDOUT_FILENO, &out[0..k]);
+    rt.write_all(&out[0..k])
 }
 
-fn main() {
+// Puts the word behind the program's name at a buffer's start and gives its length, 0 where there is no such word or no room for it.
+fn first_word(rt: &impl Env, buf: &mut [u8]) -> usize
+    ensures { result ≤ length buf.new }
+{
+    match rt.arg(1, buf) {
+        Ok(n) => n,
+        Err(_) => 0,
+    }
+}
+
+// How many words the program was started with, its own name among them.
+fn word_count(rt: &impl Env) -> usize {
+    let mut none = [0u8; 0];
+    for i in 0..usize::MAX {
+        if let Err(FillError::NotPresent) = rt.arg(i, &mut none) {
+            return i;
+        }
+    }
+    usize::MAX
+}
+
+fn main(rt: HostRuntime) -> io::Result<()> {
     let mut first = [0u8; 16];
-    let n = os::arg(1, &mut first);
-    let asked = asked_for(os::arg_count(), &first[0..n]);
+    let n = first_word(&rt, &mut first);
+    let asked = asked_for(word_count(&rt), &first[0..n]);
     match asked {
-        Asked::Run => lift(),
-        Asked::Version => say(b"x87lift 0.1.0\n"),
-        Asked::Help => help(),
+        Asked::Run => lift(&rt),
+        Asked::Version => say(&rt, b"x87lift 0.1.0\n"),
+        Asked::Help => help(&rt),
     }
 }

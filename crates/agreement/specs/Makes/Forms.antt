@@ -1,11 +1,11 @@
 -- What each form makes: beside the effect that is said of it, and of the operand that it fits
-use Rattle.std.specs.Prelude.{◌≡◌, Bool, cond, ◌&&◌, ◌||◌, leb, ltb, eqb}
+use Rattle.std.specs.Prelude.{◌≡◌, Bool, ◌||◌, leb, ltb, eqb}
 use Rattle.std.proofs.Math.Path.{refl}
 use Rattle.std.proofs.Math.Bool.{true, false}
 use Rattle.std.proofs.lemmas.Bool.{false≢true}
 use Prim.Native.Nat.{ℕ, zero, suc, ◌+◌, ◌-◌}
 use Rattle.std.proofs.Common.{eq-eqb}
-use Rattle.words.specs.Tests.{and_l, and_r, and_i, or_case}
+use Rattle.words.specs.Tests.{and_r}
 use Rattle.lists.specs.Steps.{◌▸◌, gives}
 use Rattle.lists.specs.Nodes.{node_of, fresh_of, input_counted}
 use Rattle.lists.specs.Stack.{havoc_of, grown, bottom_of, lowered, ensure_of, kept, read_of, write_of, overflows, push_of, drop_top_of, pop_of, exchange_of}

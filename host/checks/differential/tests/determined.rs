@@ -106,8 +106,8 @@ fn calls() -> Vec<Call> {
 }
 
 /// What the theorem must state of a call. `trim` gives a reference back, of
-/// which its bytes are determined; a function that is proved by hand has its
-/// contract as a formula.
+/// which its bytes are determined; a function on a
+/// reader has its contract as a formula.
 fn expected(call: &Call) -> String {
     let Call {
         krate, contract, ..
@@ -117,7 +117,7 @@ fn expected(call: &Call) -> String {
     match (krate.as_str(), name.as_str()) {
         ("texts", "trim") => format!("{key} : Fixes {contract}.Reads.Post (λ κ r x. r.now)"),
         ("reader", "new" | "moved" | "take") => format!(
-            "{key}-says : {{M : Type 1}} (𝓤 : Ura M) (H : Heap 𝓤) (A : _) (memory : _) (run : _) (κ : _) (a : _) (t : _) (e : _) → (Rattle.{krate}.specs.contracts.{}.clauses 𝓤 H A memory run κ a).ensures tt t e ≡ (connectives 𝓤).⌜◌⌝",
+            "{key}-says : {{M : Type 1}} {{𝓤 : Ura M}} (𝓛 : Logic 𝓤) (memory : _) (run : _) (κ : _) (a : _) (t : _) (e : _) → (Rattle.{krate}.specs.contracts.{}.clauses 𝓛 memory run κ a).ensures tt t e ≡ (connectives 𝓤).⌜◌⌝",
             call.name
         ),
         _ => {

@@ -27,6 +27,10 @@ const WITH_LAWS: [&str; 7] = [
     "agreement",
 ];
 
+/// The crate of the theorems: it has no functions, and so no folders of
+/// their proofs.
+const THEOREMS: &str = "agreement";
+
 /// The programs, and what cites the contracts of functions. Static libraries
 /// are functions alone, and are left out too.
 const LEFT_OUT: [&str; 2] = ["replay", "x87lift"];
@@ -217,7 +221,7 @@ fn without_code(root: &Path, to: &Path) {
             copy(
                 &from.join("proofs"),
                 &into.join("proofs"),
-                false,
+                *name == THEOREMS,
                 str::to_owned,
             );
         }
@@ -227,20 +231,22 @@ fn without_code(root: &Path, to: &Path) {
         .map(|(name, deps)| format!("{name}: {}\n", deps.join(" ")))
         .collect();
     fs::write(to.join("crates.txt"), lines).expect("crates.txt");
-    let specs = to.join("crates/agreement/specs");
-    let mut lib = read(&specs.join("Lib.antt"));
-    for name in CITES_CODE {
-        lib = lib.replace(&format!("pub mod {name}\n"), "");
-        let _ = fs::remove_file(specs.join(format!("{name}.antt")));
+    for folder in ["specs", "proofs"] {
+        let folder = to.join("crates").join(THEOREMS).join(folder);
+        let mut lib = read(&folder.join("Lib.antt"));
+        for name in CITES_CODE {
+            lib = lib.replace(&format!("pub mod {name}\n"), "");
+            let _ = fs::remove_file(folder.join(format!("{name}.antt")));
+        }
+        fs::write(folder.join("Lib.antt"), lib).expect("Lib.antt");
     }
-    fs::write(specs.join("Lib.antt"), lib).expect("Lib.antt");
 }
 
 /// Whether `agreement` is proved in a copy, and what is said of it.
 fn proved(copy: &Path) -> (bool, String) {
     let done = Command::new("rt")
         .args(["check", "--jobs", "1"])
-        .current_dir(copy.join("crates/agreement"))
+        .current_dir(copy.join("crates").join(THEOREMS))
         .output()
         .expect("rt is run");
     let said =

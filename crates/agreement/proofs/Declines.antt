@@ -1,0 +1,2 @@
+-- What a declined lift says.
+pub mod Said

@@ -1,0 +1,2 @@
+-- What follows of a demand that is met.
+pub mod Laws
