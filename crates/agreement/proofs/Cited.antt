@@ -4,7 +4,7 @@ use Rattle.std.proofs.Common.{sym}
 use Rattle.listing.specs.Run.{run_of}
 use Rattle.agreement.specs.Runs.{called, call-is}
 use Rattle.agreement.specs.Calls.{Words, lift, lift_record, promised, made}
-use Rattle.agreement.proofs.Program.{held}
+use Rattle.agreement.specs.Program.{held}
 
 abbrev words : List ℕ → List ℕ → List ℕ → Words
 words s n t = record { state = s; nodes = n; statements = t }

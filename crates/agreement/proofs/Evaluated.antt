@@ -1,30 +1,19 @@
 -- THEOREM 2: WHAT IS LIFTED EVALUATES.
 -- The nodes of any run evaluate to their end, for any column of given values that fit their nodes' sorts, in columns that are long enough,
 -- and each value is below 2 to its width: below 2^79 at each used place of the stack, and at each statement below 2 to the bits of its place.
-use Rattle.std.specs.Prelude.{◌≡◌, List, ℕ, ◌/◌, ◌^◌, ◌≤◌, ◌<◌, length, get_or}
+use Rattle.std.specs.Prelude.{List, ℕ, ◌/◌, ◌^◌, ◌≤◌, ◌<◌, length, get_or}
 use Rattle.std.proofs.Common.{ap, subst, ◌∙◌}
 use Rattle.forms.specs.declared.Instruction.{Instruction}
 use Rattle.evaluator.specs.Value.{width_of}
-use Rattle.evaluator.specs.Lists.{vals}
 use Rattle.evaluator.specs.Within.{GivenFits}
 use Rattle.evaluator.specs.Fits.{width-bits}
-use Rattle.evaluator.specs.Laws.{Evaluates, evaluates}
+use Rattle.evaluator.specs.Laws.{evaluates}
 use Rattle.agreement.specs.Runs.{Held, begun, ran}
-use Rattle.agreement.specs.Demands.{kind_at, named_at, bits_at}
+use Rattle.agreement.specs.Demands.{named_at, bits_at}
 use Rattle.agreement.proofs.Demands.Laws.{named-at}
 use Rattle.agreement.specs.Sorted.{sorts_of, Sound}
 use Rattle.agreement.proofs.Sorted.{sorted}
-
--- The value of a node
-abbrev pub value_of : Held → List ℕ → ℕ → ℕ
-value_of h g v = get_or (vals h.nodes g h.st.nodes) v 0
-
--- The given values g, and a column of m words for all values
-pub record Evaluated (h : Held) (g : List ℕ) (m : ℕ) : Type 0 where
-  pub ends : Evaluates h.nodes g h.st.nodes m
-  pub places : (i : ℕ) → i < h.st.depth → value_of h g (get_or h.st.slots i 0) < 2 ^ 79
-  pub said : (j : ℕ) → j < h.st.statements → (kind_at h.statements j ≡ 6 → ⊥)
-      → value_of h g (named_at h.statements j) < 2 ^ bits_at h.statements j
+use Rattle.agreement.specs.Evaluated.{value_of, Evaluated}
 
 -- Of any lists that are sound
 pub sound-evaluated : (h : Held) (g : List ℕ) (m : ℕ) → Sound h → h.st.nodes ≤ length g / 2 → h.st.nodes ≤ m / 2 → GivenFits h.nodes g h.st.nodes → Evaluated h g m

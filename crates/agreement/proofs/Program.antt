@@ -21,36 +21,14 @@ use Rattle.listing.specs.Longest.{longest}
 use Rattle.evaluator.specs.Within.{GivenFits}
 use Rattle.agreement.specs.Runs.{Held, begun, stepped, called, answered, declines, ran, ran_append}
 use Rattle.agreement.proofs.Refused.{refused}
-use Rattle.agreement.proofs.Evaluated.{Evaluated, sound-evaluated}
+use Rattle.agreement.specs.Evaluated.{Evaluated}
+use Rattle.agreement.proofs.Evaluated.{sound-evaluated}
 use Rattle.agreement.specs.Forgets.{RunForgets}
 use Rattle.agreement.proofs.Forgets.{run-forgets}
 use Rattle.agreement.specs.Sorted.{Sound}
 use Rattle.agreement.proofs.Sorted.{sorted}
 use Rattle.agreement.proofs.Tracks.Sorts.{run-tracked}
-
--- What stands after a run over an input
-abbrev pub held : Ran → Held
-held x = record { st = x.run.state; nodes = x.nodes; statements = x.statements }
-
--- An instruction, and those that the records behind it spell; none at the end mark and at a reader's refusal
-abbrev pub spelled : Outcome → Instruction → (ℕ → List Instruction) → List Instruction
-spelled (Record c) i on = i ∷ on c.at
-spelled (End c) i on = []
-spelled (Refused r p) i on = []
-
--- The instructions that at most k records from a place on spell
-unfoldable pub records_from : ℕ → List ℕ → ℕ → List Instruction
-records_from zero input at = []
-records_from (suc k) input at = spelled (taken_at input at).outcome (taken_at input at).insn (λ next. records_from k input next)
-
--- The instructions that an input's records spell, up to the end mark or the reader's first refusal; no input has more records than bytes, and one that is too long has none
-unfoldable pub records_of : List ℕ → List Instruction
-records_of input = cond (leb (length input) 16384) (records_from (length input) input 0) []
-
--- Those before the first one that the lifter refuses
-unfoldable pub taken : Held → List Instruction → List Instruction
-taken h [] = []
-taken h (i ∷ is) = cond (leb (answered h i) 2) (i ∷ taken (called h i) is) []
+use Rattle.agreement.specs.Program.{held, spelled, records_from, records_of, taken}
 
 abbrev over : State → List ℕ → List ℕ → Held
 over s n m = record { st = s; nodes = n; statements = m }

@@ -27,7 +27,8 @@ use Rattle.agreement.specs.Runs.{Held, begun, answered, declines, called, ran}
 use Rattle.agreement.specs.Fits.{first_of}
 use Rattle.agreement.specs.Sorted.{Sound}
 use Rattle.agreement.proofs.Sorted.{sorted}
-use Rattle.agreement.proofs.Evaluated.{Evaluated, evaluated}
+use Rattle.agreement.specs.Evaluated.{Evaluated}
+use Rattle.agreement.proofs.Evaluated.{evaluated}
 use Rattle.agreement.proofs.Image.{fld-80-run, fstp-80-run}
 use Rattle.agreement.specs.Image.Lifts.{Loads, Stores}
 use Rattle.agreement.specs.Bench.{AllHold, table, bench}
@@ -36,11 +37,14 @@ use Rattle.agreement.specs.Forgets.{Forgets, RunForgets}
 use Rattle.agreement.proofs.Forgets.{forgets, run-forgets}
 use Rattle.agreement.proofs.Handed.{two-calls}
 use Rattle.agreement.specs.Handed.Carries.{Bytes}
-use Rattle.agreement.proofs.Program.{held, taken, records_of, listed-run, listed-fits}
+use Rattle.agreement.specs.Program.{held, taken, records_of}
+use Rattle.agreement.proofs.Program.{listed-run, listed-fits}
 use Rattle.agreement.specs.Counted.{Counted, Since}
 use Rattle.agreement.proofs.Counted.{counted, since}
-use Rattle.agreement.proofs.Widths.{OfOperand, widths}
-use Rattle.agreement.proofs.Covers.{Effect-holds, effect-holds}
+use Rattle.agreement.specs.Widths.{OfOperand}
+use Rattle.agreement.proofs.Widths.{widths}
+use Rattle.agreement.specs.Covers.{Effect-holds}
+use Rattle.agreement.proofs.Covers.{effect-holds}
 use Rattle.agreement.proofs.Refused.{refused}
 use Rattle.agreement.specs.Calls.{Call, makes, all_handed, in_hand}
 use Rattle.agreement.proofs.Calls.{calls-run}

@@ -16,11 +16,7 @@ use Rattle.agreement.specs.Makes.{of_operand}
 use Rattle.agreement.specs.Makes.Lowered.{lowered-makes}
 use Rattle.agreement.proofs.Added.{by_call}
 use Rattle.agreement.proofs.Counted.{since}
-
--- Statement j, a load or a store, is of this operand: a load has its address number second, a store first, and the third field is its width
-pub record OfOperand (o : Operand) (w : List ℕ) (j : ℕ) : Type 0 where
-  pub load : kind_at w j ≡ 1 → (o.kind ≡ 1) × (field w j 2 ≡ o.address) × (field w j 3 ≡ o.width)
-  pub store : kind_at w j ≡ 2 → (o.kind ≡ 1) × (field w j 1 ≡ o.address) × (field w j 3 ≡ o.width)
+use Rattle.agreement.specs.Widths.{OfOperand}
 
 -- The test says so
 tested : (o : Operand) (a c : ℕ) → (is_memory o c && eqb a o.address) ≡ true → (o.kind ≡ 1) × (a ≡ o.address) × (c ≡ o.width)

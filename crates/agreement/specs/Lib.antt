@@ -17,3 +17,7 @@ pub mod Texts
 pub mod Image
 pub mod Determined
 pub mod Handed
+pub mod Evaluated
+pub mod Program
+pub mod Widths
+pub mod Covers
