@@ -33,7 +33,7 @@ use Rattle.agreement.specs.Laid.{over, each_row}
 use Rattle.agreement.specs.Makes.{covered_node, covered_statement}
 use Rattle.agreement.specs.Makes.Lowered.{effect_said, lowered-makes}
 use Rattle.agreement.proofs.Added.{lowered_at, by_call}
-use Rattle.agreement.specs.Covers.{KeepsStack, Anew, Covers, Effect-holds}
+use Rattle.agreement.specs.Covers.{KeepsStack, Anew, Covers, EffectHolds}
 
 -- The rows pass their tests where they stand
 call-covers : (h : Held) (i : Instruction) → Covers (effect_said (effect_of i)) h (called h i)
@@ -152,5 +152,5 @@ call-anew h i e m z =
     none : (n j : ℕ) → n ≤ j → j < n → ⊥
     none n j x y = omega arith
 
-pub effect-holds : (h : Held) (i : Instruction) → Effect-holds i h
+pub effect-holds : (h : Held) (i : Instruction) → EffectHolds i h
 effect-holds h i = record { rows = call-covers h i; stack = call-keeps h i; anew = call-anew h i }

@@ -43,7 +43,7 @@ use Rattle.agreement.specs.Counted.{Counted, Since}
 use Rattle.agreement.proofs.Counted.{counted, since}
 use Rattle.agreement.specs.Widths.{OfOperand}
 use Rattle.agreement.proofs.Widths.{widths}
-use Rattle.agreement.specs.Covers.{Effect-holds}
+use Rattle.agreement.specs.Covers.{EffectHolds}
 use Rattle.agreement.proofs.Covers.{effect-holds}
 use Rattle.agreement.proofs.Refused.{refused}
 use Rattle.agreement.specs.Calls.{Call, makes, all_handed, in_hand}
@@ -135,7 +135,7 @@ pub theorem-10 : (h : Held) (i : Instruction) (later : List Instruction) (j : �
 theorem-10 = widths
 
 -- 11 THE EFFECT COVERS THE LIFT: what is set, named and kept is what `x87_effect` says
-pub theorem-11 : (h : Held) (i : Instruction) → Effect-holds i h
+pub theorem-11 : (h : Held) (i : Instruction) → EffectHolds i h
 theorem-11 = effect-holds
 
 -- 12 A REFUSAL CHANGES NOTHING: answers over 2 leave the state and both lists as they were

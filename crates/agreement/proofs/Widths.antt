@@ -37,13 +37,13 @@ of-operand o w j e =
     }
 
 -- The statements that a call adds
-abbrev Adds-of : Operand → Held → Held → Type 0
-Adds-of o h d = (j : ℕ) → h.st.statements ≤ j → j < d.st.statements → OfOperand o d.statements j
+abbrev AddsOf : Operand → Held → Held → Type 0
+AddsOf o h d = (j : ℕ) → h.st.statements ≤ j → j < d.st.statements → OfOperand o d.statements j
 
-call-widths : (h : Held) (i : Instruction) → Adds-of (first_of i) h (called h i)
+call-widths : (h : Held) (i : Instruction) → AddsOf (first_of i) h (called h i)
 unfolding stepped gives
 call-widths h i =
-    by_call (Adds-of (first_of i) h) h i (λ r j x y. absurd (none j x y)) (λ w j x y.
+    by_call (AddsOf (first_of i) h) h i (λ r j x y. absurd (none j x y)) (λ w j x y.
     of-operand (first_of i) _ j (each_row (of_operand (first_of i)) _ _ h.st.statements w.rows' (lowered-makes i h.st).operand j x (omega (arith, w.counts'))))
   where
     none : (j : ℕ) → h.st.statements ≤ j → j < h.st.statements → ⊥

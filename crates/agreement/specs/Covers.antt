@@ -30,7 +30,7 @@ pub record Covers (e : Effect) (h d : Held) : Type 0 where
   pub reads : (v : ℕ) → h.st.nodes ≤ v → v < d.st.nodes → kind_at d.nodes v ≡ 5 → e.reads_flags ≡ true
 
 -- THE THEOREM'S PARTS, for the call on i from h
-pub record Effect-holds (i : Instruction) (h : Held) : Type 0 where
+pub record EffectHolds (i : Instruction) (h : Held) : Type 0 where
   pub rows : Covers (effect_said (effect_of i)) h (called h i)
   pub stack : (e : Effect) → effect_of i ≡ affected.Modelled e → e.defines_stack ≡ false → KeepsStack h (called h i)
   pub anew : (e : Effect) → effect_of i ≡ affected.Modelled e → e.uses_stack ≡ false → Anew h (called h i)

@@ -194,10 +194,10 @@ never e h = let z : ◌≡◌ {A = Bool} false true = cc in absurd (false≢true
 
 -- EVERY FORM THAT FITS ITS OPERAND
 module _ (o : Operand) (site : Site) (at : site.memory ≡ o.address) (register : site.register ≡ eqb o.kind 0) where
-  abbrev Form-makes : State → Form → Type 0
-  Form-makes s form = Makes (touched_of form (eqb o.kind 0)) o s (apply_x87_of s form site)
+  abbrev FormMakes : State → Form → Type 0
+  FormMakes s form = Makes (touched_of form (eqb o.kind 0)) o s (apply_x87_of s form site)
 
-  arith-form : (s : State) (op : X87Arith) (dst : ℕ) (src : ArithSrc) (reversed pop : Bool) → source_fits o src ≡ true → Form-makes s (Arith op dst src reversed pop)
+  arith-form : (s : State) (op : X87Arith) (dst : ℕ) (src : ArithSrc) (reversed pop : Bool) → source_fits o src ≡ true → FormMakes s (Arith op dst src reversed pop)
   unfolding apply_x87_of x87_arith_of ordered_of
   arith-form s op dst src reversed pop h =
       next _ (read s dst) (λ s a.
@@ -205,7 +205,7 @@ module _ (o : Operand) (site : Site) (at : site.memory ≡ o.address) (register 
       next _ (either reversed (arith-makes s op b a) (arith-makes s op a b)) (λ s v.
       next _ (write s dst v) (λ s _. nothing 0 (if-same pop s)))))
 
-  compare-status : (s : State) (src : ArithSrc) (pops : ℕ) → source_fits o src ≡ true → Form-makes s (CompareStatus src pops)
+  compare-status : (s : State) (src : ArithSrc) (pops : ℕ) → source_fits o src ≡ true → FormMakes s (CompareStatus src pops)
   unfolding apply_x87_of x87_compare_status_of covered_node covered_statement of_operand
   compare-status s src pops h =
       next _ (read s 0) (λ s x.
@@ -220,7 +220,7 @@ module _ (o : Operand) (site : Site) (at : site.memory ≡ o.address) (register 
       next _ (status-word s c0 u c3) (λ s w.
       next _ (statement _ _ _ _ refl refl) (λ s _. nothing 0 (times-same pops s))))))))))))
 
-  compare-flags : (s : State) (src : ℕ) (pop : Bool) → Form-makes s (CompareFlags src pop)
+  compare-flags : (s : State) (src : ℕ) (pop : Bool) → FormMakes s (CompareFlags src pop)
   unfolding apply_x87_of x87_compare_flags_of covered_node covered_statement of_operand
   compare-flags s src pop =
       next _ (read s 0) (λ s x.
@@ -240,7 +240,7 @@ module _ (o : Operand) (site : Site) (at : site.memory ≡ o.address) (register 
       next _ (node _ _ _ _ refl refl refl) (λ s f.
       next _ (statement _ _ _ _ refl refl) (λ s _. nothing 0 (if-same pop s)))))))))))))))))
 
-  pub apply-makes : (s : State) (form : Form) → form_fits o form ≡ true → Form-makes s form
+  pub apply-makes : (s : State) (form : Form) → form_fits o form ≡ true → FormMakes s form
   unfolding apply_x87_of push_const_of push_memory_of push_slot_of x87_store_memory_of store_slot_of x87_conditional_move_of x87_store_status_of x87_unary_of form_fits covered_node
   apply-makes s (PushConst low high) h = next _ (node _ _ _ _ refl refl refl) (λ s v. land s v _)
   apply-makes s (PushMemory width format) h = next _ (memory-read site at s width format (and_r (memory_fits width format) (is_memory o width) h)) (λ s v. land s v _)
