@@ -2,17 +2,14 @@
 -- Any number of calls of `x87_lift` and `x87_lift_record`, on any bytes, each given the words that the one before it left, from a state of thirteen zero words
 -- over any two lists, refused calls among them, come to what the run of their instructions comes to: a state that is written to words and read is that state.
 -- So the theorems on runs hold of what Rust holds in its hands: it is sound, it evaluates, it forgets at a decline.
-use Rattle.std.specs.Prelude.{◌≡◌, refl, Bool, true, false, cond, ◌&&◌, ℕ, ◌+◌, ◌*◌, ◌%◌, ◌≤◌, ◌<◌, leb, ltb, eqb, length, get_or, take, replicate}
-use Rattle.std.proofs.Common.{sym, ◌∙◌, mod-eq_of_lt, arith, le-leb, lt-ltb, length-take}
+use Rattle.std.specs.Prelude.{◌≡◌, refl, Bool, true, false, cond, ◌&&◌, ℕ, ◌+◌, ◌≤◌, leb, length, take, replicate}
+use Rattle.std.proofs.Common.{sym, ◌∙◌, le-leb}
 use Rattle.std.proofs.Math.Path.{ap, subst}
 use Rattle.std.proofs.lemmas.Bool.{false≢true}
 use mathlib.Core.List.{List, [], ◌∷◌, ◌++◌, append-nil, append_assoc}
-use Rattle.std.proofs.Math.Decide.{dec_lt}
-use Rattle.std.proofs.Math.Seq.{length-sets}
 use Rattle.texts.specs.Bytes.{all}
-use Rattle.lists.specs.Rows.{room_of, wrote}
+use Rattle.lists.specs.Rows.{wrote}
 use Rattle.lists.specs.Steps.{Built}
-use Rattle.lists.specs.Stack.{fresh}
 use Rattle.lists.specs.declared.State.{State}
 use Rattle.forms.specs.declared.Instruction.{Instruction}
 use Rattle.records.specs.Format.{taken_at}
@@ -22,13 +19,10 @@ use Rattle.records.specs.declared.Outcome.TheVariants.{Record, End, Refused}
 use Rattle.details.specs.Why.{detail_of}
 use Rattle.lifter.specs.Lift.{lift_of}
 use Rattle.export.specs.Flat.{insn_of, at_least}
-use Rattle.export.specs.Lifts.{small_is, low32, state_in, state_words, Lifted, kept_if, done, lifted_in, lifted_of, unchanged}
+use Rattle.export.specs.Lifts.{small_is, state_in, Lifted, kept_if, lifted_in, lifted_of, unchanged}
 use Rattle.export.specs.Steps.{called_of, stepped_of, step_of}
 use Rattle.agreement.specs.Runs.{Held, begun, answered, stepped, called, ran, ran_on}
 use Rattle.agreement.proofs.Refused.{refused}
-use Rattle.agreement.proofs.Fine.{Placed}
-use Rattle.agreement.proofs.Fine.Valid.{inside}
-use Rattle.agreement.proofs.Tracks.{Tracks}
 use Rattle.agreement.proofs.Tracks.Sorts.{run-tracked}
 use Rattle.agreement.specs.Sorted.{Sound}
 use Rattle.agreement.proofs.Sorted.{sorted}

@@ -13,9 +13,9 @@ use Rattle.agreement.specs.Runs.{Held, begun, stepped, called, ran}
 use Rattle.agreement.specs.Demands.{kind_at}
 use Rattle.agreement.specs.Operands.{Each}
 use Rattle.agreement.specs.Laid.{Lies}
-use Rattle.agreement.specs.Makes.{Once, Makes}
+use Rattle.agreement.specs.Makes.{Once}
 use Rattle.agreement.specs.Makes.Lowered.{lowered-makes}
-use Rattle.agreement.proofs.Added.{Added, by_call}
+use Rattle.agreement.proofs.Added.{by_call}
 use Rattle.agreement.specs.Counted.Numbers.{numbered, below}
 use Rattle.agreement.proofs.Counted.Numbers.{once-up, once-from, rows-count, numbered-same, each-node, each_below}
 use Rattle.agreement.specs.Counted.{Counted, Since}

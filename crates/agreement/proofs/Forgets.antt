@@ -6,23 +6,20 @@
 -- no formula made after the gap says anything of a node made before it. A place that is read while it is not there
 -- gives an input that the read itself adds, and no input or temporary made after the gap has the number of one made before it:
 -- it is no variable from before. It holds of any state and lists, valid or not: a state of the code has eight slots.
-use Rattle.std.specs.Prelude.{◌≡◌, true, List, ℕ, ◌≤◌, ◌<◌, length, get_or, take, replicate}
+use Rattle.std.specs.Prelude.{◌≡◌, true, List, ℕ, length, take, replicate}
 use Rattle.std.proofs.Common.{sym, subst, ◌∙◌, arith, take-take}
 use Rattle.std.proofs.lemmas.List.{length-replicate}
 use Rattle.lists.specs.Rows.{room_of}
-use Rattle.lists.specs.Stack.{read_of}
 use Rattle.forms.specs.declared.Instruction.{Instruction}
 use Rattle.agreement.specs.Runs.{Held, begun, answered, declines, stepped, called, ran}
-use Rattle.agreement.specs.Demands.{kind_at, named_at}
 use Rattle.agreement.proofs.Demands.Laws.{named-at}
-use Rattle.agreement.specs.Operands.{Each, operands_at}
+use Rattle.agreement.specs.Operands.{operands_at}
 use Rattle.agreement.proofs.Operands.{each_map, operands-at}
-use Rattle.sorts.specs.Lists.{field}
 use Rattle.agreement.specs.Counted.{Since}
 use Rattle.agreement.proofs.Counted.{since, counted, call-counted, counts-on, input-below}
 use Rattle.agreement.proofs.Tracks.Sorts.{run-tracked}
 use Rattle.agreement.proofs.Tracks.{Tracks, tracks-from, call-follows, run-follows}
-use Rattle.agreement.specs.Forgets.Reads.{EndsInInput, read-ends}
+use Rattle.agreement.specs.Forgets.Reads.{read-ends}
 use Rattle.agreement.proofs.Forgets.Clears.{decline-clears, decline-valid}
 use Rattle.agreement.proofs.Forgets.Gap.{gap-placed, any-tracks, later}
 use Rattle.agreement.specs.Forgets.{Apart, Forgets, RunForgets}

@@ -1,17 +1,8 @@
 -- What it is that counters count, as theorem 9 (proofs/Counted) states it.
-use Rattle.std.specs.Prelude.{◌≡◌, refl, List, [], ◌∷◌, ℕ, ◌+◌, ◌*◌, ◌≤◌, ◌<◌, length, get_or}
-use Rattle.std.proofs.Common.{sym, subst, ◌∙◌, arith}
-use Rattle.std.proofs.Math.Decide.{dec_lt}
-use Rattle.lists.specs.Rows.{Row, wrote}
-use Rattle.lists.specs.Steps.{gives}
-use Rattle.forms.specs.declared.Instruction.{Instruction}
+use Rattle.std.specs.Prelude.{◌≡◌, ℕ, ◌*◌, ◌≤◌, ◌<◌, get_or}
 use Rattle.sorts.specs.Lists.{field}
-use Rattle.agreement.specs.Runs.{Held, begun, stepped, called, ran}
+use Rattle.agreement.specs.Runs.{Held}
 use Rattle.agreement.specs.Demands.{kind_at}
-use Rattle.agreement.specs.Operands.{Each}
-use Rattle.agreement.specs.Laid.{Lies}
-use Rattle.agreement.specs.Makes.{Once, Makes}
-use Rattle.agreement.specs.Makes.Lowered.{lowered-makes}
 use Rattle.agreement.specs.Counted.Numbers.{numbered, below}
 pub mod Numbers
 

@@ -187,7 +187,7 @@ listed {text} {old} p q =
     let e = p.answer ∙ sym q.answer in
     (e, p.bytes ∙ ap (λ (x : Listed). cond (eqb (number_of x) 0) (sets old 0 text) old) e ∙ sym q.bytes)
 
--- The reader's functions are proved by hand, and their contracts are formulas of the logic: each has a line that says which claim the formula states,
+-- The contracts of the reader's functions are read as formulas of the logic: each has a line that says which claim the formula states,
 -- and one that the claim determines. A reference is its bytes, its place in memory and its name
 abbrev At : Bor (List ℕ) → ℕ → Reader → Type 0
 At input at r = (r.input ≡ input) × (r.at ≡ at)

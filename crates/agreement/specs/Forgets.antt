@@ -1,16 +1,13 @@
 -- What a decline forgets, as theorem 6 (proofs/Forgets) states it.
-use Rattle.std.specs.Prelude.{◌≡◌, true, List, ℕ, ◌≤◌, ◌<◌, length, get_or, take, replicate}
-use Rattle.std.proofs.Common.{sym, subst, ◌∙◌, arith, take-take}
-use Rattle.std.proofs.lemmas.List.{length-replicate}
-use Rattle.lists.specs.Rows.{room_of}
+use Rattle.std.specs.Prelude.{◌≡◌, List, ℕ, ◌≤◌, ◌<◌, get_or}
 use Rattle.lists.specs.Stack.{read_of}
 use Rattle.forms.specs.declared.Instruction.{Instruction}
-use Rattle.agreement.specs.Runs.{Held, begun, answered, declines, stepped, called, ran}
+use Rattle.agreement.specs.Runs.{Held, ran}
 use Rattle.agreement.specs.Demands.{kind_at, named_at}
 use Rattle.agreement.specs.Operands.{Each, operands_at}
 use Rattle.sorts.specs.Lists.{field}
 use Rattle.agreement.specs.Counted.{Since}
-use Rattle.agreement.specs.Forgets.Reads.{EndsInInput, read-ends}
+use Rattle.agreement.specs.Forgets.Reads.{EndsInInput}
 pub mod Reads
 
 -- After the gap that d stands for, nothing in h reaches anything from before it

@@ -99,7 +99,7 @@ fn turn<'a>(
     }
 }
 
-// Lifts what one reader takes, turn by turn, until the run stops: proved by hand, since the reader is a local.
+// Lifts what one reader takes, turn by turn, until the run stops.
 fn turns(input: &[u8], nodes: &mut [u64], statements: &mut [u64], start: Progress) -> Progress
     ensures { Runs (goes start nodes.old statements.old (run_from (length input.now) input.now 0)) result.stop nodes.new statements.new }
 {

@@ -1,5 +1,4 @@
-// The reader that remembers its place in the lent bytes. The borrow checker covers no function over a struct that holds a reference:
-// each one here is thin, leaves the work to a function of plain parameters, and is proved by hand.
+// The reader that remembers its place in the lent bytes. Each function over it is thin, and leaves the work to one of plain parameters.
 #![tactic(auto)]
 
 ghost use Rattle.std.specs.Prelude.{◌≡◌};
