@@ -2,7 +2,7 @@
 -- Any number of calls of `x87_lift` and `x87_lift_record`, on any bytes, each given the words that the one before it left, from a state of thirteen zero words
 -- over any two lists, refused calls among them, come to what the run of their instructions comes to: a state that is written to words and read is that state.
 -- So the theorems on runs hold of what Rust holds in its hands: it is sound, it evaluates, it forgets at a decline.
-use Rattle.std.specs.Prelude.{◌≡◌, refl, Bool, true, false, cond, ◌&&◌, ℕ, ◌+◌, ◌≤◌, leb, length, take, replicate}
+use Rattle.std.specs.Prelude.{◌≡◌, refl, Bool, true, false, cond, ◌&&◌, Option, Some, None, ℕ, ◌+◌, ◌≤◌, leb, length, take, replicate}
 use Rattle.std.proofs.Common.{sym, ◌∙◌, le-leb}
 use Rattle.std.proofs.Math.Path.{ap, subst}
 use Rattle.std.proofs.lemmas.Bool.{false≢true}
@@ -14,8 +14,7 @@ use Rattle.lists.specs.declared.State.{State}
 use Rattle.forms.specs.declared.Instruction.{Instruction}
 use Rattle.records.specs.Format.{taken_at}
 use Rattle.records.specs.Numbers.{refusal_of}
-use Rattle.records.specs.declared.Outcome.{Outcome}
-use Rattle.records.specs.declared.Outcome.TheVariants.{Record, End, Refused}
+use Rattle.records.specs.Reading.{Reading, got, bad}
 use Rattle.details.specs.Why.{detail_of}
 use Rattle.lifter.specs.Lift.{lift_of}
 use Rattle.export.specs.Flat.{insn_of, at_least}
@@ -92,17 +91,14 @@ module _ (nodes statements : List ℕ) where
       way true true false e = absurd (false≢true e)
       way true false x e = nothing-on w is 10 k
       way false t x e = nothing-on w is 10 k
-  call-on w is (lift_record input at out) k = way (at_least 3 out) (at_least 13 w.state) (taken_at input at).outcome (le-leb 13 (length w.state) k.long)
+  call-on w is (lift_record input at out) k = way (at_least 3 out) (at_least 13 w.state) (taken_at input at) (le-leb 13 (length w.state) k.long)
     where
-      i : Instruction
-      i = (taken_at input at).insn
-
-      way : (t x : Bool) (o : Outcome) → x ≡ true
-          → Holds (words_of (cond t (cond x (step_of o i at w.state w.nodes w.statements) (record { lifted = unchanged 10 w.state w.nodes w.statements; told = 0 ∷ 0 ∷ 0 ∷ [] })).lifted (unchanged 10 w.state w.nodes w.statements)))
-          (run (is ++ cond t (recorded o i) []))
-      way true true (Record c) e = lifted-on w is i k
-      way true true (End c) e = nothing-on w is 0 k
-      way true true (Refused r p) e = nothing-on w is (refusal_of r) k
+      way : (t x : Bool) (o : Reading (Option Instruction)) → x ≡ true
+          → Holds (words_of (cond t (cond x (step_of o at w.state w.nodes w.statements) (record { lifted = unchanged 10 w.state w.nodes w.statements; told = 0 ∷ 0 ∷ 0 ∷ [] })).lifted (unchanged 10 w.state w.nodes w.statements)))
+          (run (is ++ cond t (recorded o) []))
+      way true true (got (Some i) next) e = lifted-on w is i k
+      way true true (got None next) e = nothing-on w is 0 k
+      way true true (bad r p) e = nothing-on w is (refusal_of r) k
       way true false o e = absurd (false≢true e)
       way false x o e = nothing-on w is 10 k
 

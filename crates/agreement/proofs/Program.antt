@@ -3,7 +3,7 @@
 -- from the fresh state, up to the end mark or the first refusal. So the theorems on runs hold of its listing:
 -- the nodes pass the sort check and evaluate, each place has its width, and no formula reaches across a decline.
 -- And over its 1,024 nodes and 256 statements no listing is longer than its 139,264 bytes: it is never left out.
-use Rattle.std.specs.Prelude.{◌≡◌, Bool, cond, List, [], ◌∷◌, ◌++◌, ℕ, zero, suc, ◌/◌, ◌≤◌, leb, length}
+use Rattle.std.specs.Prelude.{◌≡◌, Bool, cond, Option, Some, None, List, [], ◌∷◌, ◌++◌, ℕ, zero, suc, ◌/◌, ◌≤◌, leb, length}
 use Rattle.std.proofs.Math.Path.{refl}
 use Rattle.std.proofs.Common.{sym, ap, subst, ◌∙◌, arith}
 use Rattle.std.proofs.Math.Bool.{true, false}
@@ -12,10 +12,9 @@ use Rattle.lists.specs.Stack.{fresh}
 use Rattle.lists.specs.declared.State.{State}
 use Rattle.forms.specs.declared.Instruction.{Instruction}
 use Rattle.records.specs.Format.{taken_at}
-use Rattle.records.specs.declared.Outcome.{Outcome}
-use Rattle.records.specs.declared.Outcome.TheVariants.{Record, End, Refused}
+use Rattle.records.specs.Reading.{Reading, got, bad}
 use Rattle.lifter.specs.Lift.{lift_of}
-use Rattle.listing.specs.Run.{Ran, ended, after, lifted, run_from, run_of}
+use Rattle.listing.specs.Run.{Ran, refused_at, ended, after, lifted, run_from, run_of}
 use Rattle.listing.specs.Listing.{text_of}
 use Rattle.listing.specs.Longest.{longest}
 use Rattle.evaluator.specs.Within.{GivenFits}
@@ -33,31 +32,31 @@ use Rattle.agreement.specs.Program.{held, spelled, records_from, records_of, tak
 abbrev over : State → List ℕ → List ℕ → Held
 over s n m = record { st = s; nodes = n; statements = m }
 
-module _ (s : State) (n m : List ℕ) (i : Instruction) (at : ℕ) where
+module _ (s : State) (n m : List ℕ) (at : ℕ) where
   -- the lift goes on, or its refusal ends the run
-  by_answer : (t : Bool) (x : Ran) (is : List Instruction) → leb (lift_of s i n m).val 2 ≡ t → held x ≡ ran (called (over s n m) i) (taken (called (over s n m) i) is)
+  by_answer : (i : Instruction) (t : Bool) (x : Ran) (is : List Instruction) → leb (lift_of s i n m).val 2 ≡ t → held x ≡ ran (called (over s n m) i) (taken (called (over s n m) i) is)
       → let b = lift_of s i n m in
-      held (cond t x (ended b.st (wrote n b.ns) (wrote m b.ss) b.val at)) ≡ ran (over s n m) (cond t (i ∷ taken (called (over s n m) i) is) [])
+      held (cond t x (ended (refused_at b.st b.val at) (wrote n b.ns) (wrote m b.ss))) ≡ ran (over s n m) (cond t (i ∷ taken (called (over s n m) i) is) [])
   unfolding ran called stepped
-  by_answer true x is e h = h
-  by_answer false x is e h = refused (over s n m) i e
+  by_answer i true x is e h = h
+  by_answer i false x is e h = refused (over s n m) i e
 
-  by-outcome : (o : Outcome) (on : ℕ → State → List ℕ → List ℕ → Ran) (is : ℕ → List Instruction)
+  by-taken : (t : Reading (Option Instruction)) (on : ℕ → State → List ℕ → List ℕ → Ran) (is : ℕ → List Instruction)
       → ((p : ℕ) (s' : State) (n' m' : List ℕ) → held (on p s' n' m') ≡ ran (over s' n' m') (taken (over s' n' m') (is p)))
-      → held (after o s n m (λ next. lifted (lift_of s i n m) n m at (on next))) ≡ ran (over s n m) (taken (over s n m) (spelled o i is))
+      → held (after t s n m (λ i next. lifted (lift_of s i n m) n m at (on next))) ≡ ran (over s n m) (taken (over s n m) (spelled t is))
   unfolding ran called stepped taken
-  by-outcome (Record c) on is h = by_answer (leb (lift_of s i n m).val 2) _ (is c.at) refl (h c.at _ _ _)
-  by-outcome (End c) on is h = refl
-  by-outcome (Refused r p) on is h = refl
+  by-taken (got (Some i) next) on is h = by_answer i (leb (lift_of s i n m).val 2) _ (is next) refl (h next _ _ _)
+  by-taken (got None next) on is h = refl
+  by-taken (bad r p) on is h = refl
 
 from : (k : ℕ) (input : List ℕ) (at : ℕ) (s : State) (n m : List ℕ) → held (run_from k input at s n m) ≡ ran (over s n m) (taken (over s n m) (records_from k input at))
 unfolding run_from records_from ran taken
 from zero input at s n m = refl
 from (suc k) input at s n m =
-    by-outcome s n m (taken_at input at).insn at (taken_at input at).outcome (λ next s n m. run_from k input next s n m) (λ next. records_from k input next) (λ p s n m. from k input p s n m)
+    by-taken s n m at (taken_at input at) (λ next s n m. run_from k input next s n m) (records_from k input) (λ p s n m. from k input p s n m)
 
 started : (t : Bool) (n m : List ℕ) (x : Ran) (is : List Instruction) → held x ≡ ran (begun n m) (taken (begun n m) is)
-    → held (cond t x (ended fresh n m 13 0)) ≡ ran (begun n m) (taken (begun n m) (cond t is []))
+    → held (cond t x (ended (refused_at fresh 13 0) n m)) ≡ ran (begun n m) (taken (begun n m) (cond t is []))
 unfolding ran taken
 started true n m x is h = h
 started false n m x is h = refl

@@ -1,7 +1,7 @@
 -- THE THEOREMS, each with its words, its statement, and where it is proved. A run is any list of instructions, lifted one after the other
 -- from the fresh state over any two lists, refused calls among them; `begun` is its start, `called` one call more, `ran` any number (Runs).
 -- That these are what the contracts of the calls claim is said in Cited
-use Rattle.std.specs.Prelude.{◌≡◌, Bool, true, false, List, [], ◌∷◌, ◌++◌, ℕ, suc, ◌*◌, ◌/◌, ◌^◌, ◌≤◌, ◌<◌, leb, length, get_or, take, drop, replicate}
+use Rattle.std.specs.Prelude.{◌≡◌, Bool, true, false, Option, Some, List, [], ◌∷◌, ◌++◌, ℕ, suc, ◌*◌, ◌/◌, ◌^◌, ◌≤◌, ◌<◌, leb, length, get_or, take, drop, replicate}
 use Rattle.lists.specs.Rows.{row, wrote, room_of}
 use Rattle.forms.specs.declared.Instruction.{Instruction}
 use Rattle.forms.specs.declared.Form.TheVariants.{PushMemory, StoreMemory}
@@ -12,9 +12,7 @@ use Rattle.forms.specs.Classify.{classify_of}
 use Rattle.forms.specs.Numbers.{number_of}
 use Rattle.details.specs.Why.{why_of, detail_of}
 use Rattle.records.specs.Format.{taken_at}
-use Rattle.records.specs.declared.Cursor.{Cursor}
-use Rattle.records.specs.declared.Taken.{Taken}
-use Rattle.records.specs.declared.Outcome.TheVariants.{Record}
+use Rattle.records.specs.Reading.{Reading, got}
 use Rattle.lifter.specs.Lift.{lift_of}
 use Rattle.evaluator.specs.Within.{GivenFits}
 use Rattle.export.specs.Answers.{ReadsRecord, classified}
@@ -107,9 +105,9 @@ pub theorem-6-run : (nodes statements : List ℕ) (is : List Instruction) (i : I
 theorem-6-run = run-forgets
 
 -- 7 TWO CALLS OR ONE: a record that is read into 177 bytes and lifted from them gives what the record lifted gives
-pub theorem-7 : (input flat out : List ℕ) (at r : ℕ) (flat_left out_left : List ℕ) (c : Cursor) (s n t : List ℕ)
+pub theorem-7 : (input flat out : List ℕ) (at r : ℕ) (flat_left out_left : List ℕ) (i : Instruction) (next : ℕ) (s n t : List ℕ)
     → Bytes input → 177 ≤ length flat → 2 ≤ length out
-    → (taken_at input at).outcome ≡ Record c → ReadsRecord (taken_at input at) flat out r flat_left out_left
+    → taken_at input at ≡ got (Some i) next → ReadsRecord (taken_at input at) flat out r flat_left out_left
     → lifted_of flat_left s n t ≡ (stepped_of (taken_at input at) at s n t).lifted
 theorem-7 = two-calls
 
@@ -151,7 +149,7 @@ theorem-13 = calls-run
 pub theorem-14 : (flat : List ℕ) → Zeros 8 (classified flat)
 theorem-14 = classify-beside
 
-pub theorem-14-record : (t : Taken) (at : ℕ) (s n m : List ℕ) → let x = stepped_of t at s n m in leb x.lifted.answer 2 ≡ false → PlaceAndZeros 2 x.told
+pub theorem-14-record : (t : Reading (Option Instruction)) (at : ℕ) (s n m : List ℕ) → let x = stepped_of t at s n m in leb x.lifted.answer 2 ≡ false → PlaceAndZeros 2 x.told
 theorem-14-record = step-beside
 
 -- 15 NO DECLINE IS WITHOUT A REASON, AND NO MODELLED INSTRUCTION HAS ONE: of an instruction that is refused neither with 3 nor with 4, `classify` declines exactly if

@@ -2,7 +2,7 @@
 -- Every exported call that is lent words to tell goes by one rule (`Tells` in export/specs/Answers). Beside an answer other than 0 these words are 0,
 -- but a place that is named and beside a decline its detail, for whatever bytes, records and lists the call is given; a call of lift on a record that was lifted,
 -- declined or not, tells the next place and 1
-use Rattle.std.specs.Prelude.{◌≡◌, refl, Bool, true, false, cond, ◌&&◌, List, [], ◌∷◌, ℕ, eqb, leb, take, replicate}
+use Rattle.std.specs.Prelude.{◌≡◌, refl, Bool, true, false, cond, ◌&&◌, Option, Some, None, List, [], ◌∷◌, ℕ, eqb, leb, take, replicate}
 use Rattle.std.proofs.Common.{arith}
 use Rattle.texts.specs.Bytes.{all}
 use Rattle.forms.specs.Classify.{classify_of}
@@ -12,9 +12,8 @@ use Rattle.forms.specs.declared.Classified.{Classified}
 use Rattle.forms.specs.declared.Classified.TheVariants as classified-as
 use Rattle.forms.specs.declared.Affected.{Affected}
 use Rattle.forms.specs.declared.Affected.TheVariants as affected-as
-use Rattle.records.specs.declared.Taken.{Taken}
-use Rattle.records.specs.declared.Outcome.{Outcome}
-use Rattle.records.specs.declared.Outcome.TheVariants.{Record, End, Refused}
+use Rattle.forms.specs.declared.Instruction.{Instruction}
+use Rattle.records.specs.Reading as records
 use Rattle.image.specs.Answers.{read_of}
 use Rattle.image.specs.declared.Found.{Found}
 use Rattle.image.specs.declared.Found.TheVariants.{Pattern, TooWide, Short}
@@ -95,36 +94,36 @@ lift-beside flat s n m = way (at_least 177 flat && at_least 13 s) (all small_is 
     way false c e = refl
 
 -- THE READER OF RECORDS
-pub read-beside : (t : Taken) (flat : List ℕ) → ((read_into t flat).number ≡ 0 → ⊥) → PlaceAndZeros 1 (read_into t flat).words
+pub read-beside : (t : records.Reading (Option Instruction)) (flat : List ℕ) → ((read_into t flat).number ≡ 0 → ⊥) → PlaceAndZeros 1 (read_into t flat).words
 unfolding read_into
-read-beside t flat = way (at_least 177 flat) t.outcome
+read-beside t flat = way (at_least 177 flat) t
   where
-    said : Outcome → Said
-    said o = record { number = Rattle.records.specs.Numbers.number_of o; words = Rattle.records.specs.Numbers.place_of o ∷ Rattle.forms.specs.Numbers.bit (Rattle.records.specs.Numbers.record_is o) ∷ [] }
+    said : records.Reading (Option Instruction) → Said
+    said t = record { number = Rattle.records.specs.Numbers.number_of t; words = Rattle.records.specs.Numbers.place_of t ∷ Rattle.forms.specs.Numbers.bit (Rattle.records.specs.Numbers.record_is t) ∷ [] }
 
-    way : (b : Bool) (o : Outcome) → ((cond b (said o) (too_short 2)).number ≡ 0 → ⊥) → PlaceAndZeros 1 (cond b (said o) (too_short 2)).words
-    way true (Record c) h = absurd (h refl)
-    way true (End c) h = absurd (h refl)
-    way true (Refused r p) h = record { place = p; told = refl }
-    way false o h = record { place = 0; told = refl }
+    way : (b : Bool) (t : records.Reading (Option Instruction)) → ((cond b (said t) (too_short 2)).number ≡ 0 → ⊥) → PlaceAndZeros 1 (cond b (said t) (too_short 2)).words
+    way true (records.got (Some i) n) h = absurd (h refl)
+    way true (records.got None n) h = absurd (h refl)
+    way true (records.bad r p) h = record { place = p; told = refl }
+    way false t h = record { place = 0; told = refl }
 
 -- THE LIFT OF A RECORD: an answer over 2 is a refusal
 told-beside : (r detail next at : ℕ) → leb r 2 ≡ false → PlaceAndZeros 2 (told_of r detail next at)
 unfolding told_of
 told-beside r detail next at e = rw e (record { place = at; told = refl })
 
-pub step-beside : (t : Taken) (at : ℕ) (s n m : List ℕ) → let x = stepped_of t at s n m in leb x.lifted.answer 2 ≡ false → PlaceAndZeros 2 x.told
+pub step-beside : (t : records.Reading (Option Instruction)) (at : ℕ) (s n m : List ℕ) → let x = stepped_of t at s n m in leb x.lifted.answer 2 ≡ false → PlaceAndZeros 2 x.told
 unfolding stepped_of step_of
-step-beside t at s n m = way (at_least 13 s) t.outcome
+step-beside t at s n m = way (at_least 13 s) t
   where
     short : Stepped
     short = record { lifted = Rattle.export.specs.Lifts.unchanged 10 s n m; told = 0 ∷ 0 ∷ 0 ∷ [] }
 
-    way : (b : Bool) (o : Outcome) → let x = cond b (step_of o t.insn at s n m) short in leb x.lifted.answer 2 ≡ false → PlaceAndZeros 2 x.told
-    way true (Record c) e = told-beside (lifted_in t.insn s n m).answer (lifted_in t.insn s n m).detail c.at at e
-    way true (End c) e = record { place = c.at; told = refl }
-    way true (Refused r p) e = record { place = p; told = refl }
-    way false o e = record { place = 0; told = refl }
+    way : (b : Bool) (t : records.Reading (Option Instruction)) → let x = cond b (step_of t at s n m) short in leb x.lifted.answer 2 ≡ false → PlaceAndZeros 2 x.told
+    way true (records.got (Some i) next) e = told-beside (lifted_in i s n m).answer (lifted_in i s n m).detail next at e
+    way true (records.got None next) e = record { place = next; told = refl }
+    way true (records.bad r p) e = record { place = p; told = refl }
+    way false t e = record { place = 0; told = refl }
 
 -- THE IMAGE
 pub image-beside : (image : List ℕ) (low high : ℕ) → Zeros 2 (found_said (read_of image (wide low high)))

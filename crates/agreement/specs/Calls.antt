@@ -1,10 +1,9 @@
 -- What calls of `x87_lift` and `x87_lift_record` hand over and leave, as theorem 13 (proofs/Calls) speaks of them.
-use Rattle.std.specs.Prelude.{cond, ℕ}
+use Rattle.std.specs.Prelude.{cond, Option, Some, None, ℕ}
 use mathlib.Core.List.{List, [], ◌∷◌, ◌++◌}
 use Rattle.forms.specs.declared.Instruction.{Instruction}
 use Rattle.records.specs.Format.{taken_at}
-use Rattle.records.specs.declared.Outcome.{Outcome}
-use Rattle.records.specs.declared.Outcome.TheVariants.{Record, End, Refused}
+use Rattle.records.specs.Reading.{Reading, got, bad}
 use Rattle.export.specs.Flat.{insn_of, at_least}
 use Rattle.export.specs.Lifts.{state_in, Lifted, unchanged}
 use Rattle.export.specs.Steps.{called_of, stepped_of}
@@ -37,14 +36,14 @@ makes w [] = w
 makes w (c ∷ cs) = makes (made w c) cs
 
 -- The instruction that a call hands to the lifter, if it hands one over
-abbrev pub recorded : Outcome → Instruction → List Instruction
-recorded (Record c) i = i ∷ []
-recorded (End c) i = []
-recorded (Refused r p) i = []
+abbrev pub recorded : Reading (Option Instruction) → List Instruction
+recorded (got (Some i) next) = i ∷ []
+recorded (got None next) = []
+recorded (bad r p) = []
 
 unfoldable pub handed : Call → List Instruction
 handed (lift flat out) = cond (at_least 1 out) (cond (at_least 177 flat) (insn_of flat ∷ []) []) []
-handed (lift_record input at out) = cond (at_least 3 out) (recorded (taken_at input at).outcome (taken_at input at).insn) []
+handed (lift_record input at out) = cond (at_least 3 out) (recorded (taken_at input at)) []
 
 unfoldable pub all_handed : List Call → List Instruction
 all_handed [] = []

@@ -1,17 +1,13 @@
 -- THEOREM 5: EVERY PROMISE DETERMINES ITS ANSWER.
 -- Any two answers of a public call that meet its contract are equal, and so are the words that they leave in each slice that the call is lent.
 -- Each line cites the contract itself, as the toolchain has it of the source: `Post` is what the call's `ensures` claims, at its lifetimes κ and its arguments a,
--- of an answer (r, s) and of the parameters at exit (x, y), of which a slice's words are its `now`
-use Rattle.std.specs.Prelude.{◌≡◌, refl, Bool, true, false, cond, List, [], ℕ, ◌<◌, eqb}
-use Rattle.std.proofs.Common.{sym, ap, ◌∙◌}
+-- of an answer (r, s) and of the parameters at exit (x, y), of which what is lent is its `now`
+use Rattle.std.specs.Prelude.{◌≡◌, refl, Bool, true, false, cond, Option, Result, Ok, Err, List, [], ℕ, ◌<◌, eqb}
+use Rattle.std.proofs.Common.{sym, ap, ◌∙◌, arith}
 use Rattle.std.proofs.lemmas.List.Edits.{sets}
-use seplogic.Ra.Ura.{Ura}
-use types.Logic.{Logic}
-use contract.Notation.{connectives}
 use Rattle.std.specs.Borrow.{Bor}
-use Rattle.records.specs.Format.{taken_at}
-use Rattle.records.specs.Numbers.{place_of}
-use Rattle.records.specs.declared.Taken.{Taken}
+use Rattle.records.specs.Reading.{Reading, reading}
+use Rattle.records.specs.declared.Refusal.{Refusal}
 use Rattle.reader.specs.declared.Reader.{Reader}
 use Rattle.lists.specs.Steps.{Built, Did, Told, Does}
 use Rattle.lists.specs.declared.State.{State}
@@ -26,7 +22,6 @@ use Rattle.writing.specs.Put.{Put}
 use Rattle.listing.specs.Run.{Ran, Runs}
 use Rattle.listing.specs.Listing.{Lists, number_of}
 use Rattle.listing.specs.declared.Stop.{Stop}
-use Rattle.listing.specs.declared.Listed.{Listed}
 use Rattle.sorts.specs.declared.Verdict.{Verdict}
 use Rattle.evaluator.specs.Table.{table_after, Tables}
 use Rattle.evaluator.specs.Outcome.{column_after}
@@ -54,7 +49,7 @@ module _ {L : Type 0} {A R E : L → Type 0} (P : (κ : L) → A κ → R κ →
   abbrev pub Determined : Type 0
   Determined = (κ : L) (a : A κ) (r s : R κ) (x y : E κ) → P κ a r x → P κ a s y → r ≡ s
 
-  abbrev pub Determined₁ : ((κ : L) → E κ → List ℕ) → Type 0
+  abbrev pub Determined₁ : {B : Type 0} → ((κ : L) → E κ → B) → Type 0
   Determined₁ l = (κ : L) (a : A κ) (r s : R κ) (x y : E κ) → P κ a r x → P κ a s y → (r ≡ s) × (l κ x ≡ l κ y)
 
   abbrev pub Determined₂ : (l m : (κ : L) → E κ → List ℕ) → Type 0
@@ -135,7 +130,7 @@ module _ {r s : ℕ} where
   tells : {k : ℕ} {x : Said} {out l m : List ℕ} → Tells k x out r l → Tells k x out s m → (r ≡ s) × (l ≡ m)
   tells p q = (p.answer ∙ sym q.answer, p.told ∙ sym q.told)
 
-  reads : {t : Taken} {flat out l m l₂ m₂ : List ℕ} → ReadsRecord t flat out r l l₂ → ReadsRecord t flat out s m m₂ → (r ≡ s) × (l ≡ m) × (l₂ ≡ m₂)
+  reads : {t : Reading (Option Instruction)} {flat out l m l₂ m₂ : List ℕ} → ReadsRecord t flat out r l l₂ → ReadsRecord t flat out s m m₂ → (r ≡ s) × (l ≡ m) × (l₂ ≡ m₂)
   reads p q = let w = tells p.told q.told in (w.0, p.bytes ∙ sym q.bytes, w.1)
 
   lifts : {x : Lifted} {l m l₂ m₂ l₃ m₃ : List ℕ} → Lifts x r l l₂ l₃ → Lifts x s m m₂ m₃ → (r ≡ s) × (l ≡ m) × (l₂ ≡ m₂) × (l₃ ≡ m₃)
@@ -182,26 +177,24 @@ runs p q = (p.run ∙ sym q.run, p.nodes ∙ sym q.nodes, p.statements ∙ sym q
 put : {text old l m : List ℕ} {at r s : ℕ} → Put text at r old l → Put text at s old m → (r ≡ s) × (l ≡ m)
 put p q = (p.place ∙ sym q.place, p.bytes ∙ sym q.bytes)
 
-listed : {text old l m : List ℕ} {r s : Listed} → Lists text r old l → Lists text s old m → (r ≡ s) × (l ≡ m)
+listed : {text old l m : List ℕ} {r s : Option ℕ} → Lists text r old l → Lists text s old m → (r ≡ s) × (l ≡ m)
 listed {text} {old} p q =
     let e = p.answer ∙ sym q.answer in
-    (e, p.bytes ∙ ap (λ (x : Listed). cond (eqb (number_of x) 0) (sets old 0 text) old) e ∙ sym q.bytes)
+    (e, p.bytes ∙ ap (λ (x : Option ℕ). cond (eqb (number_of x) 0) (sets old 0 text) old) e ∙ sym q.bytes)
 
--- The contracts of the reader's functions are read as formulas of the logic: each has a line that says which claim the formula states,
--- and one that the claim determines. A reference is its bytes, its place in memory and its name
-abbrev At : Bor (List ℕ) → ℕ → Reader → Type 0
-At input at r = (r.input ≡ input) × (r.at ≡ at)
+-- a reading's two parts are determined by it, and so is where a reader stands
+reading-same : {A : Type 0} (r s : Result A Refusal) {n m : ℕ} {x : Reading A} → reading r n ≡ x → reading s m ≡ x → (r ≡ s) × (n ≡ m)
+reading-same (Ok v) (Ok w) p q = let e = p ∙ sym q in (cc, cc)
+reading-same (Ok v) (Err w) p q = let e = p ∙ sym q in let t : ◌≡◌ {A = ℕ} 0 1 = cc in absurd (omega arith)
+reading-same (Err v) (Ok w) p q = let e = p ∙ sym q in let t : ◌≡◌ {A = ℕ} 0 1 = cc in absurd (omega arith)
+reading-same (Err v) (Err w) p q = let e = p ∙ sym q in (cc, cc)
 
-abbrev Takes : Reader → Taken → Reader → Type 0
-Takes r t q = (t ≡ taken_at r.input.now r.at) × (q.input ≡ r.input) × (q.at ≡ place_of t.outcome)
+placed : {input : Bor (List ℕ)} {at : ℕ} {r s : Reader} → (r.input ≡ input) × (r.at ≡ at) → (s.input ≡ input) × (s.at ≡ at) → r ≡ s
+placed p q = reader-same (p.0 ∙ sym q.0) (p.1 ∙ sym q.1)
 
-placed : (input : Bor (List ℕ)) (at : ℕ) (r s : Reader) → At input at r → At input at s → r ≡ s
-placed input at r s p q = reader-same (p.0 ∙ sym q.0) (p.1 ∙ sym q.1)
-
-taken : (r : Reader) (t u : Taken) (x y : Reader) → Takes r t x → Takes r u y → (t ≡ u) × (x ≡ y)
-taken r t u x y p q =
-    let e = p.0 ∙ sym q.0 in
-    (e, reader-same (p.1 ∙ sym q.1) (p.2 ∙ ap (λ (z : Taken). place_of z.outcome) e ∙ sym q.2))
+takes : {x : Reading (Option Instruction)} {input : Bor (List ℕ)} {r s : Result (Option Instruction) Refusal} {y z : Reader}
+    → (reading r y.at ≡ x) × (y.input ≡ input) → (reading s z.at ≡ x) × (z.input ≡ input) → (r ≡ s) × (y ≡ z)
+takes {r = r} {s} p q = let e = reading-same r s p.0 q.0 in (e.0, reader-same (p.1 ∙ sym q.1) e.1)
 
 -- texts
 
@@ -306,37 +299,25 @@ details·beside κ a r s x y = one
 
 -- records
 
-pub records·refusal-number : Determined Rattle.records.proofs.refusal_number.Reads.Post
-records·refusal-number κ a r s x y = one
+pub records·number : Determined Rattle.records.proofs.Refusal.number.Reads.Post
+records·number κ a r s x y = one
 
-pub records·read-record : Determined Rattle.records.proofs.read_record.Reads.Post
-records·read-record κ a r s x y = one
+pub records·read-record : Determined₁ Rattle.records.proofs.read_record.Reads.Post (λ κ x. x.1.0.now)
+records·read-record κ a r s x y = reading-same r s
 
 -- reader
 
-pub reader·new-says : {M : Type 1} {𝓤 : Ura M} (𝓛 : Logic 𝓤) (memory : _) (run : _) (κ : _) (a : _) (t : _) (e : _)
-    → (Rattle.reader.specs.contracts.new.clauses 𝓛 memory run κ a).ensures tt t e ≡ (connectives 𝓤).⌜◌⌝ (At a.0 0 t)
-reader·new-says 𝓛 memory run κ a t e = refl
+pub reader·new : Determined Rattle.reader.proofs.Reader.new.Reads.Post
+reader·new κ a r s x y = placed
 
-pub reader·new : (input : Bor (List ℕ)) (at : ℕ) (r s : Reader) → At input at r → At input at s → r ≡ s
-reader·new = placed
+pub reader·moved : Determined Rattle.reader.proofs.Reader.moved.Reads.Post
+reader·moved κ a r s x y = placed
 
-pub reader·moved-says : {M : Type 1} {𝓤 : Ura M} (𝓛 : Logic 𝓤) (memory : _) (run : _) (κ : _) (a : _) (t : _) (e : _)
-    → (Rattle.reader.specs.contracts.moved.clauses 𝓛 memory run κ a).ensures tt t e ≡ (connectives 𝓤).⌜◌⌝ (At a.0.input a.1.0 t)
-reader·moved-says 𝓛 memory run κ a t e = refl
+pub reader·take : Determined₁ Rattle.reader.proofs.Reader.take.Reads.Post (λ κ x. x.0.now)
+reader·take κ a r s x y = takes
 
-pub reader·moved : (input : Bor (List ℕ)) (at : ℕ) (r s : Reader) → At input at r → At input at s → r ≡ s
-reader·moved = placed
-
-pub reader·take-says : {M : Type 1} {𝓤 : Ura M} (𝓛 : Logic 𝓤) (memory : _) (run : _) (κ : _) (a : _) (t : _) (e : _)
-    → (Rattle.reader.specs.contracts.take.clauses 𝓛 memory run κ a).ensures tt t e ≡ (connectives 𝓤).⌜◌⌝ (Takes a.0.now t e.0.now)
-reader·take-says 𝓛 memory run κ a t e = refl
-
-pub reader·take : (r : Reader) (t u : Taken) (x y : Reader) → Takes r t x → Takes r u y → (t ≡ u) × (x ≡ y)
-reader·take = taken
-
-pub reader·record-at : Determined Rattle.reader.proofs.record_at.Reads.Post
-reader·record-at κ a r s x y = one
+pub reader·record-at : Determined₁ Rattle.reader.proofs.Reader.record_at.Reads.Post (λ κ x. x.0.now)
+reader·record-at κ a r s x y = takes
 
 -- lists
 
@@ -659,15 +640,6 @@ answers·effect-number κ a r s x y = one
 
 pub answers·effect-fields : Determined Rattle.answers.proofs.effect_fields.Reads.Post
 answers·effect-fields κ a r s x y = one
-
-pub answers·outcome-number : Determined Rattle.answers.proofs.outcome_number.Reads.Post
-answers·outcome-number κ a r s x y = one
-
-pub answers·place : Determined Rattle.answers.proofs.place.Reads.Post
-answers·place κ a r s x y = one
-
-pub answers·is-record : Determined Rattle.answers.proofs.is_record.Reads.Post
-answers·is-record κ a r s x y = one
 
 pub answers·found-number : Determined Rattle.answers.proofs.values.found_number.Reads.Post
 answers·found-number κ a r s x y = one

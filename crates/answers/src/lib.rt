@@ -6,13 +6,11 @@ pub mod values;
 
 ghost use Rattle.std.specs.Prelude.{◌≡◌, [], ◌∷◌};
 ghost use Rattle.forms.specs.Numbers as forms;
-ghost use Rattle.records.specs.Numbers as records;
 
 use forms::{
     Affected, ArithSrc, Classified, Effect, Form, MemFormat, RoundingMode, UnaryOp, X87Arith,
     X87Condition,
 };
-use records::Outcome;
 
 pub fn bit(b: bool) -> u64
     ensures { result ≡ forms.bit b }
@@ -228,36 +226,5 @@ pub fn effect_fields(a: Affected) -> [u64; 7]
         Affected::Declined => [0u64; 7],
         Affected::BadText => [0u64; 7],
         Affected::BadOperands => [0u64; 7],
-    }
-}
-
-// An outcome's number, its place, and whether a record was read.
-pub fn outcome_number(o: Outcome) -> u32
-    ensures { result ≡ records.number_of o }
-{
-    match o {
-        Outcome::Record(_) => 0,
-        Outcome::End(_) => 0,
-        Outcome::Refused(r, _) => records::refusal_number(r),
-    }
-}
-
-pub fn place(o: Outcome) -> usize
-    ensures { result ≡ records.place_of o }
-{
-    match o {
-        Outcome::Record(c) => c.at,
-        Outcome::End(c) => c.at,
-        Outcome::Refused(_, p) => p,
-    }
-}
-
-pub fn is_record(o: Outcome) -> bool
-    ensures { result ≡ records.record_is o }
-{
-    match o {
-        Outcome::Record(_) => true,
-        Outcome::End(_) => false,
-        Outcome::Refused(_, _) => false,
     }
 }

@@ -1,6 +1,6 @@
 -- What the lifter and the state's words come to, joined.
-use mathlib.Core.Path.{◌≡◌, refl, ap, ◌∙◌}
-use mathlib.Core.Bool.{Bool, true, false, cond, true≢false, false≢true}
+use mathlib.Core.Path.{◌≡◌, refl, sym, ap, ◌∙◌}
+use mathlib.Core.Bool.{Bool, true, false, cond}
 use mathlib.Core.List.{List, [], ◌∷◌}
 use Prim.Native.Nat.{ℕ, ◌≤◌, ◌<◌}
 use lib.Dec.{leb}
@@ -9,10 +9,12 @@ use borrow.Author.Tests.{le-leb, lt-leb}
 use Rattle.texts.specs.Bytes.{all}
 use Rattle.lists.specs.declared.State.{State}
 use Rattle.forms.specs.declared.Instruction.{Instruction}
-use Rattle.records.specs.Numbers.{record_is, number_of, place_of}
-use Rattle.records.specs.declared.Taken.{Taken}
-use Rattle.records.specs.declared.Outcome.{Outcome}
-use Rattle.records.specs.declared.Outcome.TheVariants.{Record, End, Refused}
+use Rattle.std.specs.Prelude.{Option, Some, None, Result, Ok, Err}
+use Rattle.std.proofs.Common.{Bor}
+use Rattle.records.specs.Format.{taken_at}
+use Rattle.records.specs.Numbers.{refusal_of}
+use Rattle.records.specs.Reading.{Reading, got, bad, reading}
+use Rattle.records.specs.declared.Refusal.{Refusal}
 use Rattle.forms.specs.declared.Classified.{Classified}
 use Rattle.forms.specs.Classify.{classify_of}
 use Rattle.lists.specs.Steps.{Built, Does}
@@ -82,33 +84,32 @@ module _ (f s n t out : List ℕ) where
   pub few_words : length out < 1 → Steps 1 (called_of f s n t) s n t out 10 s n t out
   few_words k = record { told = untold _ _ _ k; lifts = rw (lt-leb _ _ k) (stays 10 s n t) }
 
+-- what a reader of these bytes took, or that it was refused
+module _ {r : Result (Option Instruction) Refusal} {n : ℕ} (at : ℕ) {a b : Bor (List ℕ)} (h : reading r n ≡ taken_at b.now at) (i : b ≡ a) where
+  pub took : {w v : Option Instruction} → r ≡ Ok w → w ≡ v → got v n ≡ taken_at a.now at
+  took e f = ap (λ (v : Option Instruction). got v n) (sym f) ∙ ap (λ (r : Result (Option Instruction) Refusal). reading r n) (sym e) ∙ h ∙ ap (λ (b : Bor (List ℕ)). taken_at b.now at) i
+
+  pub refused : {q : Refusal} → r ≡ Err q → bad q n ≡ taken_at a.now at
+  refused e = ap (λ (r : Result (Option Instruction) Refusal). reading r n) (sym e) ∙ h ∙ ap (λ (b : Bor (List ℕ)). taken_at b.now at) i
+
 -- one record: lifted, or not there to be lifted
-module _ (i : Instruction) (at : ℕ) (s n t out : List ℕ) (room : 3 ≤ length out) where
-  lifted : (o : Outcome) (r d : ℕ) (s' n' t' left : List ℕ) → record_is o ≡ true → Given (lifted_in i s n t) r d s' n' t'
-      → left ≡ laid out 0 (told_of r d (place_of o) at) → Steps 3 (step_of o i at s n t) s n t out r s' n' t' left
-  unfolding step_of
-  lifted (Record c) r d s' n' t' left e g w = record { told = tells _ _ _ room g.0.answer (rw (← g.0.answer, ← g.1) w); lifts = rw (le-leb _ _ room) g.0 }
-  lifted (End c) r d s' n' t' left e g w = absurd (false≢true e)
-  lifted (Refused x p) r d s' n' t' left e g w = absurd (false≢true e)
+module _ (at : ℕ) (s n t out : List ℕ) (room : 3 ≤ length out) (long : 13 ≤ length s) {x : Reading (Option Instruction)} where
+  pub steps_on : {i : Instruction} {next : ℕ} → got (Some i) next ≡ x → (r d : ℕ) (s' n' t' left : List ℕ) → Given (lifted_in i s n t) r d s' n' t'
+      → left ≡ laid out 0 (told_of r d next at) → Steps 3 (stepped_of x at s n t) s n t out r s' n' t' left
+  unfolding stepped_of step_of
+  steps_on e r d s' n' t' left g w =
+      rw (le-leb _ _ long, ← e) (record { told = tells _ _ _ room g.0.answer (rw (← g.0.answer, ← g.1) w); lifts = rw (le-leb _ _ room) g.0 })
 
-  quiet : (o : Outcome) (r : ℕ) (left : List ℕ) → record_is o ≡ false → r ≡ number_of o → left ≡ laid out 0 (place_of o ∷ 0 ∷ 0 ∷ [])
-      → Steps 3 (step_of o i at s n t) s n t out r s n t left
-  unfolding step_of
-  quiet (Record c) r left e d w = absurd (true≢false e)
-  quiet (End c) r left e d w = record { told = tells _ _ _ room d w; lifts = rw (le-leb _ _ room, d) (stays 0 s n t) }
-  quiet (Refused x p) r left e d w = record { told = tells _ _ _ room d w; lifts = rw (le-leb _ _ room, d) (stays _ s n t) }
+  pub ends : {next : ℕ} → got None next ≡ x → (left : List ℕ) → left ≡ laid out 0 (next ∷ 0 ∷ 0 ∷ []) → Steps 3 (stepped_of x at s n t) s n t out 0 s n t left
+  unfolding stepped_of step_of
+  ends e left w = rw (le-leb _ _ long, ← e) (record { told = tells _ _ _ room refl w; lifts = rw (le-leb _ _ room) (stays 0 s n t) })
 
-module _ (x : Taken) (at : ℕ) (s n t out : List ℕ) where
-  pub steps_on : 3 ≤ length out → 13 ≤ length s → (r d : ℕ) (s' n' t' left : List ℕ) → record_is x.outcome ≡ true → Given (lifted_in x.insn s n t) r d s' n' t'
-      → left ≡ laid out 0 (told_of r d (place_of x.outcome) at) → Steps 3 (stepped_of x at s n t) s n t out r s' n' t' left
-  unfolding stepped_of
-  steps_on k h r d s' n' t' left e g w = rw (le-leb _ _ h) (lifted x.insn at s n t out k x.outcome r d s' n' t' left e g w)
+  pub stops : {q : Refusal} {place : ℕ} → bad q place ≡ x → (r : ℕ) → r ≡ refusal_of q → (left : List ℕ) → left ≡ laid out 0 (place ∷ 0 ∷ 0 ∷ [])
+      → Steps 3 (stepped_of x at s n t) s n t out r s n t left
+  unfolding stepped_of step_of
+  stops e r d left w = rw (le-leb _ _ long, ← e) (record { told = tells _ _ _ room d w; lifts = rw (le-leb _ _ room, d) (stays _ s n t) })
 
-  pub stops : 3 ≤ length out → 13 ≤ length s → (r : ℕ) (left : List ℕ) → record_is x.outcome ≡ false → r ≡ number_of x.outcome
-      → left ≡ laid out 0 (place_of x.outcome ∷ 0 ∷ 0 ∷ []) → Steps 3 (stepped_of x at s n t) s n t out r s n t left
-  unfolding stepped_of
-  stops k h r left e d w = rw (le-leb _ _ h) (quiet x.insn at s n t out k x.outcome r left e d w)
-
+module _ (x : Reading (Option Instruction)) (at : ℕ) (s n t out : List ℕ) where
   pub few-state : 3 ≤ length out → length s < 13 → (left : List ℕ) → left ≡ laid out 0 (0 ∷ 0 ∷ 0 ∷ []) → Steps 3 (stepped_of x at s n t) s n t out 10 s n t left
   unfolding stepped_of
   few-state k h left w = rw (lt-leb _ _ h) (record { told = tells _ _ _ k refl w; lifts = rw (le-leb _ _ k) (stays 10 s n t) })

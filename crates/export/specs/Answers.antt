@@ -1,12 +1,12 @@
 -- What a call tells beside its answer, and what classify, effect and the reader of records answer and leave.
-use Rattle.std.specs.Prelude.{◌≡◌, Bool, cond, ◌&&◌, List, [], ◌∷◌, ℕ, replicate}
+use Rattle.std.specs.Prelude.{◌≡◌, cond, ◌&&◌, Option, Some, None, List, [], ◌∷◌, ℕ, replicate}
 use Rattle.forms.specs.declared.Instruction.{Instruction}
 use Rattle.forms.specs.Classify.{classify_of}
 use Rattle.forms.specs.Effects.{effect_of}
 use Rattle.details.specs.Why.{detail_of}
 use Rattle.forms.specs.Numbers.{bit, number_of, fields_of, effect_number, effect_fields}
 use Rattle.records.specs.Numbers as records
-use Rattle.records.specs.declared.Taken.{Taken}
+use Rattle.records.specs.Reading.{Reading, got, bad}
 use Rattle.export.specs.Flat.{insn_of, flat_of, laid, at_least}
 
 -- a number, and the words beside it: beside a refusal each is 0, but a node or a place that is named
@@ -52,18 +52,17 @@ Reasons flat out = Tells 1 (reasoned flat) out
 abbrev pub Affects : List ℕ → List ℕ → ℕ → List ℕ → Type 0
 Affects flat out = Tells 7 (affected flat) out
 
--- the number of what stands at a place, its place, and whether a record was read
-unfoldable pub read_into : Taken → List ℕ → Said
-read_into t flat =
-    cond (at_least 177 flat)
-    (record { number = records.number_of t.outcome; words = records.place_of t.outcome ∷ bit (records.record_is t.outcome) ∷ [] })
-    (too_short 2)
+-- the number of what stands at a place, its place, and whether it is a record
+unfoldable pub read_into : Reading (Option Instruction) → List ℕ → Said
+read_into t flat = cond (at_least 177 flat) (record { number = records.number_of t; words = records.place_of t ∷ bit (records.record_is t) ∷ [] }) (too_short 2)
 
--- the instruction's bytes in front, if it is there
-abbrev pub wrote_if : Bool → Instruction → List ℕ → List ℕ
-wrote_if b i l = cond b (laid l 0 (flat_of i)) l
+-- a record's instruction in the bytes in front
+abbrev pub wrote : Reading (Option Instruction) → List ℕ → List ℕ
+wrote (got (Some i) n) l = laid l 0 (flat_of i)
+wrote (got None n) l = l
+wrote (bad r p) l = l
 
 -- and the bytes of a record's instruction, where both slices have room
-pub record ReadsRecord (t : Taken) (flat out : List ℕ) (r : ℕ) (flat_left out_left : List ℕ) : Type 0 where
+pub record ReadsRecord (t : Reading (Option Instruction)) (flat out : List ℕ) (r : ℕ) (flat_left out_left : List ℕ) : Type 0 where
   pub told : Tells 2 (read_into t flat) out r out_left
-  pub bytes : flat_left ≡ wrote_if ((at_least 2 out && at_least 177 flat) && records.record_is t.outcome) t.insn flat
+  pub bytes : flat_left ≡ cond (at_least 2 out && at_least 177 flat) (wrote t flat) flat

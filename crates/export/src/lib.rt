@@ -11,11 +11,12 @@ ghost use Rattle.records.specs.Format.{taken_at};
 ghost use Rattle.export.specs.Flat.{laid};
 ghost use Rattle.export.specs.Lifts.{Lifts, placed_in, kept_if};
 ghost use Rattle.export.specs.Steps.{Steps, called_of, stepped_of, told_of};
-ghost use Rattle.export.specs.Answers.{Classifies, Reasons, Affects, ReadsRecord, wrote_if};
+ghost use Rattle.export.specs.Answers.{Classifies, Reasons, Affects, ReadsRecord};
 
 use forms::{Classified, Instruction};
 use lists::State;
 use memory::Site;
+use reader::Reader;
 
 // Writes words to the front of a lent slice.
 pub(crate) fn lay(out: &mut [u64], w: &[u64])
@@ -104,44 +105,41 @@ pub fn x87_effect(flat: &[u8], out: &mut [u64]) -> u32
     10
 }
 
-// Writes the instruction of a record that was read.
-fn write_if(flat: &mut [u8], insn: Instruction, there: bool)
-    requires { 177 ≤ length flat.old }
-    ensures { flat.new ≡ wrote_if there insn flat.old }
-{
-    if there {
-        flat::write(flat, insn);
-    }
-}
-
 // Reads the record at a place into bytes that are there, where there is room to tell.
 fn read_in(input: &[u8], at: usize, flat: &mut [u8], out: &mut [u64]) -> u32
     requires { (177 ≤ length flat.old) × (2 ≤ length out.old) }
     ensures { ReadsRecord (taken_at input.now at) flat.old out.old result flat.new out.new }
 {
-    let t = reader::record_at(input, at);
-    let o = t.outcome;
-    let insn = t.insn;
-    let there = answers::is_record(o);
-    let w = [answers::place(o) as u64, answers::bit(there)];
-    lay(out, &w);
-    write_if(flat, insn, there);
-    answers::outcome_number(o)
+    let mut reader = Reader::new(input);
+    match reader.record_at(at) {
+        Ok(Some(insn)) => {
+            lay(out, &[reader.at as u64, 1]);
+            flat::write(flat, insn);
+            0
+        }
+        Ok(None) => {
+            lay(out, &[reader.at as u64, 0]);
+            0
+        }
+        Err(refused) => {
+            lay(out, &[reader.at as u64, 0]);
+            refused.number()
+        }
+    }
 }
 
 // Reads the record at a place: tells the next place or the offending one and whether a record was read, and writes its instruction.
 pub fn x87_read_record(input: &[u8], at: usize, flat: &mut [u8], out: &mut [u64]) -> u32
     ensures { ReadsRecord (taken_at input.now at) flat.old out.old result flat.new out.new }
 {
-    if 2 <= out.len() {
-        if 177 <= flat.len() {
-            return read_in(input, at, flat, out);
-        }
-        let none = [0u64; 2];
-        lay(out, &none);
+    if out.len() < 2 {
         return 10;
     }
-    10
+    if flat.len() < 177 {
+        lay(out, &[0; 2]);
+        return 10;
+    }
+    read_in(input, at, flat, out)
 }
 
 // Writes the state's words, unless the lift was refused.
@@ -211,11 +209,9 @@ fn tell(out: &mut [u64], answer: u32, detail: u32, next: usize, at: usize)
     ensures { out.new ≡ laid out.old 0 (told_of answer detail next at) }
 {
     if answer <= 2 {
-        let w = [next as u64, 1, detail as u64];
-        lay(out, &w);
+        lay(out, &[next as u64, 1, detail as u64]);
     } else {
-        let w = [at as u64, 0, 0];
-        lay(out, &w);
+        lay(out, &[at as u64, 0, 0]);
     }
 }
 
@@ -231,21 +227,26 @@ fn lift_record_in(
     requires { (13 ≤ length state.old) × (3 ≤ length out.old) }
     ensures { Steps 3 (stepped_of (taken_at input.now at) at state.old nodes.old statements.old) state.old nodes.old statements.old out.old result state.new nodes.new statements.new out.new }
 {
-    let t = reader::record_at(input, at);
-    let o = t.outcome;
-    let insn = t.insn;
-    let next = answers::place(o);
-    if answers::is_record(o) {
-        let classified = forms::classify(insn);
-        let detail = details::detail(classified, insn);
-        let site = memory::site_of(insn);
-        let answer = lift_in(classified, detail, site, state, nodes, statements);
-        tell(out, answer, details::beside(answer, detail), next, at);
-        return answer;
+    let mut reader = Reader::new(input);
+    match reader.record_at(at) {
+        Ok(Some(insn)) => {
+            let classified = forms::classify(insn);
+            let detail = details::detail(classified, insn);
+            let site = memory::site_of(insn);
+            let answer = lift_in(classified, detail, site, state, nodes, statements);
+            let detail = details::beside(answer, detail);
+            tell(out, answer, detail, reader.at, at);
+            answer
+        }
+        Ok(None) => {
+            lay(out, &[reader.at as u64, 0, 0]);
+            0
+        }
+        Err(refusal) => {
+            lay(out, &[reader.at as u64, 0, 0]);
+            refusal.number()
+        }
     }
-    let w = [next as u64, 0, 0];
-    lay(out, &w);
-    answers::outcome_number(o)
 }
 
 // Reads the record at a place and lifts its instruction.
@@ -259,13 +260,12 @@ pub fn x87_lift_record(
 ) -> u32
     ensures { Steps 3 (stepped_of (taken_at input.now at) at state.old nodes.old statements.old) state.old nodes.old statements.old out.old result state.new nodes.new statements.new out.new }
 {
-    if 3 <= out.len() {
-        if 13 <= state.len() {
-            return lift_record_in(input, at, state, nodes, statements, out);
-        }
-        let none = [0u64; 3];
-        lay(out, &none);
+    if out.len() < 3 {
         return 10;
     }
-    10
+    if state.len() < 13 {
+        lay(out, &[0; 3]);
+        return 10;
+    }
+    lift_record_in(input, at, state, nodes, statements, out)
 }

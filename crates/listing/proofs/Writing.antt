@@ -1,6 +1,7 @@
 -- Lines that are written one number and one row after the other.
 use mathlib.Core.Path.{◌≡◌, refl, sym}
 use mathlib.Core.Bool.{true}
+use Rattle.std.specs.Prelude.{Some, None}
 use mathlib.Core.List.{List, [], ◌∷◌, ◌++◌, append_assoc, append-nil}
 use Prim.Native.Nat.{ℕ, suc, ◌+◌, ◌-◌, ◌*◌, ◌≤◌, ◌<◌}
 use native.Mathlib.Numerals.{add-one}
@@ -14,7 +15,6 @@ use Rattle.writing.specs.Put.{Put}
 use Rattle.writing.specs.Laws.{then, fits, does_not}
 use Rattle.lists.specs.declared.State.{State}
 use Rattle.listing.specs.Listing.{Lists, places, state_line}
-use Rattle.listing.specs.declared.Listed.TheVariants.{Bytes, Short}
 use Rattle.listing.specs.Text.{numbers, line, rows}
 
 -- one number more
@@ -49,11 +49,11 @@ module _ (s : State) (p : List ℕ) (e : p ≡ places s) where
 
 -- the whole text, or none of it
 module _ {text old : List ℕ} {n : ℕ} {l m : List ℕ} (x : Put text 0 n l m) where
-  pub whole : {r : ℕ} {new : List ℕ} → n ≤ length old → Put text 0 r old new → Lists text (Bytes n) old new
+  pub whole : {r : ℕ} {new : List ℕ} → n ≤ length old → Put text 0 r old new → Lists text (Some n) old new
   whole h y =
       let q : n ≡ length text = fits x h y.room in
       let k : leb (length text) (length old) ≡ true = le-leb (length text) (length old) (omega arith) in
       record { answer = rw (k, q); bytes = y.bytes }
 
-  pub none : length old < n → Lists text Short old old
+  pub none : length old < n → Lists text None old old
   none h = record { answer = rw (lt-leb (length text) (length old) (does_not x h)); bytes = refl }

@@ -1,16 +1,13 @@
 -- How long a listing can be: no word has more than 20 digits.
-use Rattle.std.specs.Prelude.{Bool, true, false, cond, List, [], ◌∷◌, ◌++◌, ℕ, zero, suc, ◌+◌, ◌*◌, ◌≤◌, eqb, length, get_or, take}
+use Rattle.std.specs.Prelude.{Option, Some, None, List, [], ◌∷◌, ◌++◌, ℕ, zero, suc, ◌+◌, ◌*◌, ◌≤◌, length, get_or, take}
 use Rattle.std.proofs.Common.{arith, length-append, length-take}
 use Rattle.lists.specs.declared.State.{State}
 use Rattle.writing.specs.Bytes.{decimal}
 use Rattle.writing.specs.Laws.{digits-most}
 use Rattle.listing.specs.Text.{numbers, line, rows}
 use Rattle.listing.specs.Listing.{places, state_line, refusal_line, text_of}
+use Rattle.listing.specs.declared.Refused.{Refused}
 use Rattle.listing.specs.declared.Stop.{Stop}
-
-either : (t : Bool) (a b : List ℕ) (n : ℕ) → length a ≤ n → length b ≤ n → length (cond t a b) ≤ n
-either true a b n h k = h
-either false a b n h k = k
 
 -- 21 bytes a number, two beside a line's numbers, and five numbers a row
 pub numbers-most : (l : List ℕ) → length (numbers l) ≤ 21 * length l
@@ -35,9 +32,10 @@ state-most s =
     let l = take s.depth (places s) in
     omega (arith, line-most 100 (s.depth ∷ s.inputs ∷ s.temporaries ∷ l), length-take s.depth (places s))
 
-refusal-most : (number place : ℕ) → length (refusal_line number place) ≤ 44
+refusal-most : (r : Option Refused) → length (refusal_line r) ≤ 44
 unfolding refusal_line
-refusal-most number place = either (eqb number 0) [] (line 114 (number ∷ place ∷ [])) 44 (omega arith) (line-most 114 (number ∷ place ∷ []))
+refusal-most (Some r) = line-most 114 (r.number ∷ r.place ∷ [])
+refusal-most None = omega arith
 
 -- 107 bytes a row, 233 for the state and 44 for a refusal
 pub longest : (nodes statements : List ℕ) (r : Stop)
@@ -47,5 +45,5 @@ longest nodes statements r =
     let n = rows 110 nodes r.state.nodes in
     let m = rows 115 statements r.state.statements in
     let d = state_line r.state in
-    let x = refusal_line r.number r.place in
-    omega (arith, length-append n (m ++ (d ++ x)), length-append m (d ++ x), length-append d x, rows-most 110 nodes r.state.nodes, rows-most 115 statements r.state.statements, state-most r.state, refusal-most r.number r.place)
+    let x = refusal_line r.refused in
+    omega (arith, length-append n (m ++ (d ++ x)), length-append m (d ++ x), length-append d x, rows-most 110 nodes r.state.nodes, rows-most 115 statements r.state.statements, state-most r.state, refusal-most r.refused)

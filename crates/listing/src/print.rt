@@ -4,7 +4,7 @@ ghost use Rattle.writing.specs.Put.{Put};
 ghost use Rattle.listing.specs.Text.{numbers, line, rows};
 ghost use Rattle.listing.specs.Listing.{places, state_line, refusal_line, text_of};
 
-use crate::Stop;
+use crate::{Refused, Stop};
 use lists::State;
 
 // A blank before each number.
@@ -101,15 +101,14 @@ fn state_line(out: &mut [u8], at: usize, s: State) -> usize
     line(out, at, 100, &values)
 }
 
-// A refusal's number and place.
-fn refusal_line(out: &mut [u8], at: usize, number: u32, place: usize) -> usize
-    ensures { Put (refusal_line number place) at result out.old out.new }
+// A refusal's number and place, if there is one.
+fn refusal_line(out: &mut [u8], at: usize, refused: Option<Refused>) -> usize
+    ensures { Put (refusal_line refused) at result out.old out.new }
 {
-    if number == 0 {
-        return at;
+    match refused {
+        Some(r) => line(out, at, 114, &[r.number as u64, r.place as u64]),
+        None => at,
     }
-    let values = [number as u64, place as u64];
-    line(out, at, 114, &values)
 }
 
 // The whole listing, from the first byte on.
@@ -120,5 +119,5 @@ pub(crate) fn text(out: &mut [u8], nodes: &[u64], statements: &[u64], run: Stop)
     let a = rows(out, 0, 110, nodes, s.nodes);
     let b = rows(out, a, 115, statements, s.statements);
     let c = state_line(out, b, s);
-    refusal_line(out, c, run.number, run.place)
+    refusal_line(out, c, run.refused)
 }

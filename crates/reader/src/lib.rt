@@ -1,11 +1,12 @@
-// The reader that remembers its place in the lent bytes. Each function over it is thin, and leaves the work to one of plain parameters.
+// The reader that remembers its place in the lent bytes.
 #![tactic(auto)]
 
 ghost use Rattle.std.specs.Prelude.{◌≡◌};
+ghost use Rattle.records.specs.Reading.{reading};
 ghost use Rattle.records.specs.Format.{taken_at};
-ghost use Rattle.records.specs.Numbers.{place_of};
 
-use records::{Cursor, Outcome, Taken};
+use forms::Instruction;
+use records::Refusal;
 
 // The lent bytes, and the place of the next record.
 #[derive(Clone, Copy)]
@@ -14,58 +15,33 @@ pub struct Reader<'a> {
     pub at: usize,
 }
 
-// What stands at a place of lent bytes.
-fn taken_at(input: &[u8], place: usize) -> Taken
-    ensures { result ≡ taken_at input.now place }
-{
-    records::read_record(input, Cursor { at: place })
-}
-
-// The place behind what was read, or the offending one.
-fn place_after(t: Taken) -> usize
-    ensures { result ≡ place_of t.outcome }
-{
-    let o = t.outcome;
-    match o {
-        Outcome::Record(c) => c.at,
-        Outcome::End(c) => c.at,
-        Outcome::Refused(_, p) => p,
+impl<'a> Reader<'a> {
+    // A reader at the first byte.
+    pub fn new(input: &'a [u8]) -> Reader<'a>
+        ensures { (result.input ≡ input.entry) × (result.at ≡ 0) }
+    {
+        Reader { input, at: 0 }
     }
-}
 
-// A reader at the first byte.
-pub fn new<'a>(input: &'a [u8]) -> Reader<'a>
-    ensures { (result.input ≡ input.entry) × (result.at ≡ 0) }
-{
-    Reader {
-        input: input,
-        at: 0,
+    // The reader at another place of the same bytes.
+    pub fn moved(self, at: usize) -> Reader<'a>
+        ensures { (result.input ≡ self.entry.input) × (result.at ≡ at) }
+    {
+        Reader { at, ..self }
     }
-}
 
-// The reader at another place of the same bytes.
-pub fn moved<'a>(r: Reader<'a>, at: usize) -> Reader<'a>
-    ensures { (result.input ≡ r.entry.input) × (result.at ≡ at) }
-{
-    Reader {
-        input: r.input,
-        at: at,
+    // The record at the reader's place, or that the end mark stands there; the reader moves on behind it, or to the offending place.
+    pub fn take(&mut self) -> Result<Option<Instruction>, Refusal>
+        ensures { (reading result self.new.at ≡ taken_at self.old.input.now self.old.at) × (self.new.input ≡ self.old.input) }
+    {
+        records::read_record(self.input, &mut self.at)
     }
-}
 
-// What stands at the reader's place; the reader moves on behind it, or to the offending place.
-pub fn take<'s, 'a>(r: &'s mut Reader<'a>) -> Taken
-    ensures { (result ≡ taken_at r.old.input.now r.old.at) × (r.new.input ≡ r.old.input) × (r.new.at ≡ place_of result.outcome) }
-{
-    let t = taken_at(r.input, r.at);
-    r.at = place_after(t);
-    t
-}
-
-// What a reader takes at a place of lent bytes: for every caller that holds no reader.
-pub fn record_at(input: &[u8], at: usize) -> Taken
-    ensures { result ≡ taken_at input.now at }
-{
-    let mut r = moved(new(input), at);
-    take(&mut r)
+    // What is taken at another place, to which the reader goes.
+    pub fn record_at(&mut self, at: usize) -> Result<Option<Instruction>, Refusal>
+        ensures { (reading result self.new.at ≡ taken_at self.old.input.now at) × (self.new.input ≡ self.old.input) }
+    {
+        *self = self.moved(at);
+        self.take()
+    }
 }

@@ -1,86 +1,68 @@
 -- Laws of a text's bytes, as its loop reads them: p is what was read so far.
-use mathlib.Core.Path.{◌≡◌, refl, sym, ◌∙◌, ap}
-use mathlib.Core.List.{List, [], ◌∷◌, ◌++◌, append_assoc, append-nil}
-use Prim.Native.Nat.{ℕ, suc, ◌+◌, ◌-◌, ◌<◌, ◌≤◌}
+use Rattle.std.proofs.Common.{◌≡◌, refl, sym, ◌∙◌, ap, ℕ, suc, ◌+◌, ◌-◌, ◌<◌, ◌≤◌, List, [], ◌∷◌, ◌++◌, append_assoc, append-nil, length, take, drop, set, replicate, Ok, arith, length-set, add-one, take-append-drop, take-suc-set, drop-set-lt, drop-drop}
 use native.Mathlib.Nat.{sub-zero}
-use native.Mathlib.Numerals.{add-one}
-use native.Mathlib.Omega.{arith}
-use lib.ListN.{length, take, drop, set, replicate, take-append-drop}
-use lib.Seq.{take-suc-set, drop-set-lt, drop-drop}
-use Rattle.records.specs.Reading.{Reading, got, bad, ◌▹◌, limited_at}
 use Rattle.texts.specs.declared.Text.{Text}
-use Rattle.records.specs.Format.{letters_at, text_of}
-use Rattle.records.proofs.Sequence.{then, on-got}
-use Rattle.records.specs.Inside.Steps.{read, on}
-use Rattle.records.specs.declared.Next.{Next}
-use Rattle.records.specs.declared.Next.TheVariants.{At, Stop}
+use Rattle.records.specs.Reading.{Reading, got, bad, ◌▹◌, limited_at}
+use Rattle.records.specs.Format.{letters_at, text_of, text_at}
+use Rattle.records.specs.Inside.Steps.{Reads}
+use Rattle.records.specs.declared.Cursor.{Cursor}
 use Rattle.records.specs.declared.Refusal.TheVariants.{BadText}
+use Rattle.records.proofs.Sequence.{Left}
 
--- what is left to read, behind what was read
-abbrev pub behind : List ℕ → List ℕ → ℕ → ℕ → Reading (List ℕ)
-behind p s k n = letters_at k s n ▹ λ l e. got (p ++ l) e
+-- what is left of a text of len bytes, k of them behind p
+abbrev pub after : List ℕ → ℕ → List ℕ → ℕ → ℕ → Reading Text
+after s len p k n = letters_at k s n ▹ λ t e. got (text_of len (p ++ t)) e
 
-nothing : (r : Reading (List ℕ)) → r ≡ (r ▹ λ l e. got l e)
-nothing (got l e) = refl
-nothing (bad q p) = refl
+one_more : (len : ℕ) (p : List ℕ) (b : ℕ) (r : Reading (List ℕ))
+    → ((r ▹ λ l e. got (b ∷ l) e) ▹ λ t e. got (text_of len (p ++ t)) e) ≡ (r ▹ λ t e. got (text_of len ((p ++ b ∷ []) ++ t)) e)
+one_more len p b (got l e) = ap (λ (t : List ℕ). got (text_of len t) e) (sym (append_assoc p (b ∷ []) l))
+one_more len p b (bad q n) = refl
 
-pub letters-start : (s : List ℕ) (x : Next) (n : ℕ) → on x (letters_at n s) ≡ on x (behind [] s (n - 0))
-unfolding on
-letters-start s (At m) n = rw sub-zero (nothing (letters_at n s m))
-letters-start s (Stop q p) n = refl
-
-one_more : (p : List ℕ) (b : ℕ) (r : Reading (List ℕ)) → ((r ▹ λ l e. got (b ∷ l) e) ▹ λ l e. got (p ++ l) e) ≡ (r ▹ λ l e. got ((p ++ b ∷ []) ++ l) e)
-one_more p b (got l e) = rw append_assoc
-one_more p b (bad q n) = refl
-
-step : (p s : List ℕ) (y : Next) (k b : ℕ)
-    → ((read b y ▹ λ b n. letters_at k s n ▹ λ l e. got (b ∷ l) e) ▹ λ l e. got (p ++ l) e) ≡ on y (behind (p ++ b ∷ []) s k)
-unfolding read on
-step p s (At m) k b = one_more p b (letters_at k s m)
-step p s (Stop q n) k b = refl
-
-out : {A B C : Type 0} (x : Next) (f : ℕ → Reading A) (g : A → ℕ → Reading B) (h : B → ℕ → Reading C) → on x (λ n. (f n ▹ g) ▹ h) ≡ ((on x f ▹ g) ▹ h)
-unfolding on
-out (At n) f g h = refl
-out (Stop q p) f g h = refl
-
-next : (p s : List ℕ) (x y : Next) (k b : ℕ) → read b y ≡ on x (limited_at 127 BadText s) → on x (behind p s (suc k)) ≡ on y (behind (p ++ b ∷ []) s k)
+split : (s : List ℕ) (len : ℕ) (p : List ℕ) (k n : ℕ) → after s len p (suc k) n ≡ (limited_at 127 BadText s n ▹ λ b m. after s len (p ++ b ∷ []) k m)
 unfolding letters_at
-next p s x y k b e =
-    let g : ℕ → ℕ → Reading (List ℕ) = λ b n. letters_at k s n ▹ λ l e. got (b ∷ l) e in
-    out x (limited_at 127 BadText s) g (λ l e. got (p ++ l) e)
-    ∙ ap (λ (r : Reading ℕ). (r ▹ g) ▹ λ l e. got (p ++ l) e) (sym e)
-    ∙ step p s y k b
+split s len p k n = way (limited_at 127 BadText s n)
+  where
+    way : (r : Reading ℕ)
+        → ((r ▹ λ b m. letters_at k s m ▹ λ l e. got (b ∷ l) e) ▹ λ t e. got (text_of len (p ++ t)) e)
+        ≡ (r ▹ λ b m. letters_at k s m ▹ λ t e. got (text_of len ((p ++ b ∷ []) ++ t)) e)
+    way (got b m) = one_more len p b (letters_at k s m)
+    way (bad q m) = refl
 
-stop : (p s : List ℕ) (x : Next) → read p x ≡ on x (behind p s 0)
-unfolding read on letters_at
-stop p s (At m) = rw append-nil
-stop p s (Stop q n) = refl
+-- what the loop keeps
+pub record Kept (start : Cursor) (len i : ℕ) (bytes : List ℕ) (c : Cursor) : Type 0 where
+  pub long : length bytes ≡ 32
+  pub short : len ≤ 32
+  pub zeros : drop i bytes ≡ replicate (32 - i) 0
+  pub left : Left text_at start (after start.input.now len (take i bytes) (len - i)) c
 
-module _ (s : List ℕ) (x : Next) (n i : ℕ) (l : List ℕ) where
-  pub letters-on : (y : Next) (b : ℕ) → i < n → i < length l → read b y ≡ on x (limited_at 127 BadText s)
-      → on x (behind (take i l) s (n - i)) ≡ on y (behind (take (i + 1) (set l i b)) s (n - (i + 1)))
-  letters-on y b h k e =
-      let q : n - i ≡ suc (n - (i + 1)) = omega arith in
-      rw (q, add-one, take-suc-set l i b k) (next (take i l) s x y (n - suc i) b e)
+pub begun : {start c : Cursor} {len : ℕ} → len ≤ 32 → Left text_at start (λ n. letters_at len start.input.now n ▹ λ l e. got (text_of len l) e) c → Kept start len 0 (replicate 32 0) c
+begun {start} {c} {len} h l = record { long = refl; short = h; zeros = refl; left = record { comes = rw sub-zero l.comes; input = l.input } }
 
-  pub letters-end : n ≤ i → read (take i l) x ≡ on x (behind (take i l) s (n - i))
-  letters-end h =
-      let q : n - i ≡ 0 = omega arith in
-      rw q (stop (take i l) s x)
+module _ {start : Cursor} {len i : ℕ} {bytes : List ℕ} {c : Cursor} (k : Kept start len i bytes c) where
+  -- the next byte is read
+  pub one : i < len → Left text_at start (λ n. limited_at 127 BadText start.input.now n ▹ λ b m. after start.input.now len (take i bytes ++ b ∷ []) (len - (i + 1)) m) c
+  one h =
+      let q : len - i ≡ suc (len - (i + 1)) = omega arith in
+      record { comes = k.left.comes ∙ rw q (split start.input.now len (take i bytes) (len - (i + 1)) c.at); input = k.left.input }
 
--- the bytes past those that were read are 0
-pub zeros-on : (l : List ℕ) (i b : ℕ) → i < 32 → drop i l ≡ replicate (32 - i) 0 → drop (i + 1) (set l i b) ≡ replicate (32 - (i + 1)) 0
-zeros-on l i b h e =
-    let q : 32 - i ≡ suc (32 - (i + 1)) = omega arith in
-    drop-set-lt (i + 1) l i b (omega arith) ∙ sym (drop-drop 1 i l) ∙ ap (drop 1) (rw q at e)
+  pub on : (b : ℕ) {d : Cursor} → i < len → Left text_at start (after start.input.now len (take i bytes ++ b ∷ []) (len - (i + 1))) d → Kept start len (i + 1) (set bytes i b) d
+  on b h l =
+      let q : 32 - i ≡ suc (32 - (i + 1)) = omega (arith, k.short) in
+      let e : take (i + 1) (set bytes i b) ≡ take i bytes ++ b ∷ [] = rw (add-one i) (take-suc-set bytes i b (omega (arith, k.short, k.long))) in
+      record {
+        long = length-set bytes i b ∙ k.long;
+        short = k.short;
+        zeros = drop-set-lt (i + 1) bytes i b (omega arith) ∙ sym (drop-drop 1 i bytes) ∙ ap (drop 1) (rw q at k.zeros);
+        left = rw e l;
+      }
 
-filled : (b : List ℕ) (i n : ℕ) → i ≡ n → drop i b ≡ replicate (32 - i) 0 → text_of n (take i b) ≡ record { bytes = b; len = n }
-filled b i n e z = ap (λ (l : List ℕ). record { bytes = l; len = n }) (rw (← e, ← z) (take-append-drop i b))
-
-pub letters-text : (s : List ℕ) (x y : Next) (b : List ℕ) (i n : ℕ) → i ≡ n → drop i b ≡ replicate (32 - i) 0 → read (take i b) y ≡ on x (letters_at n s)
-    → on x (λ m. letters_at n s m ▹ λ l e. got (text_of n l) e) ≡ read (record { bytes = b; len = n }) y
-letters-text s x y b i n e z h =
-    then (λ l e. got (text_of n l) e) x y (take i b) (letters_at n s) h
-    ∙ on-got y (text_of n (take i b))
-    ∙ ap (λ (t : Text). read t y) (filled b i n e z)
+  -- all of them were read
+  pub over : i ≡ len → Reads text_at start c (Ok (record { bytes = bytes; len = len }))
+  unfolding letters_at
+  over h =
+      let q : len - i ≡ 0 = omega arith in
+      let w = rw q at k.left.comes in
+      record {
+        comes = sym (w ∙ ap (λ (l : List ℕ). got (record { bytes = l; len = len }) c.at) (rw (append-nil, ← h, ← k.zeros) (take-append-drop i bytes)));
+        input = k.left.input;
+      }

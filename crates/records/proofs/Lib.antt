@@ -1,4 +1,3 @@
 pub mod Sequence
-pub mod Leaves
 pub mod Letters
-pub mod Choices
+pub mod Leaves

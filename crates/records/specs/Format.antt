@@ -1,12 +1,10 @@
 -- The format of a record: the manual, section 8.
-use Rattle.std.specs.Prelude.{Bool, cond, List, [], ◌∷◌, ◌++◌, ℕ, zero, suc, ◌-◌, eqb, ltb, length, replicate}
+use Rattle.std.specs.Prelude.{Bool, cond, Option, Some, None, List, [], ◌∷◌, ◌++◌, ℕ, zero, suc, ◌-◌, eqb, ltb, length, replicate}
 use Rattle.texts.specs.declared.Text.{Text}
 use Rattle.forms.specs.declared.Operand.{Operand}
 use Rattle.forms.specs.declared.Instruction.{Instruction}
 use Rattle.records.specs.Reading.{Reading, got, bad, ◌▹◌, limited_at, either_at, number_at}
 use Rattle.records.specs.declared.Refusal.TheVariants.{BadText, BadOperand, BadMark}
-use Rattle.records.specs.declared.Outcome.TheVariants.{Record, End, Refused}
-use Rattle.records.specs.declared.Taken.{Taken}
 
 -- n bytes, none over 127
 unfoldable pub letters_at : ℕ → List ℕ → ℕ → Reading (List ℕ)
@@ -56,34 +54,18 @@ operand_at s at =
 unfoldable pub present_at : Bool → List ℕ → ℕ → Reading Operand
 present_at b s at = cond b (operand_at s at) (got absent at)
 
-abbrev pub no_instruction : Instruction
-no_instruction = record { operands = absent ∷ absent ∷ absent ∷ []; count = 0; mnemonic = no_text; address = 0 }
-
--- a record that ends before the place n
-abbrev pub took : Instruction → ℕ → Reading Taken
-took i n = got (record { outcome = Record (record { at = n }); insn = i }) n
-
 -- address, mnemonic, operand count, operands
-unfoldable pub record_at : List ℕ → ℕ → Reading Taken
+unfoldable pub record_at : List ℕ → ℕ → Reading (Option Instruction)
 record_at s at =
     number_at 8 s at ▹ λ a n. text_at s n ▹ λ m n. limited_at 3 BadOperand s n ▹ λ k n.
     present_at (ltb 0 k) s n ▹ λ x n. present_at (ltb 1 k) s n ▹ λ y n. present_at (ltb 2 k) s n ▹ λ z n.
-    took (record { operands = x ∷ y ∷ z ∷ []; count = k; mnemonic = m; address = a }) n
+    got (Some (record { operands = x ∷ y ∷ z ∷ []; count = k; mnemonic = m; address = a })) n
 
 -- nothing stands behind the end mark
-unfoldable pub end_at : List ℕ → ℕ → Reading Taken
-end_at s n =
-    cond (eqb n (length s)) (got (record { outcome = End (record { at = n }); insn = no_instruction }) n) (bad BadMark n)
+unfoldable pub end_at : List ℕ → ℕ → Reading (Option Instruction)
+end_at s n = cond (eqb n (length s)) (got None n) (bad BadMark n)
 
--- mark 87 49 and a record, or 87 45 and the end
-unfoldable pub item_at : List ℕ → ℕ → Reading Taken
-item_at s at =
+-- what is taken at a place: mark 87 49 and a record, or 87 45 and the end
+unfoldable pub taken_at : List ℕ → ℕ → Reading (Option Instruction)
+taken_at s at =
     either_at 0x87 0x87 s at ▹ λ _ n. either_at 0x49 0x45 s n ▹ λ b n. cond (eqb b 0x49) (record_at s n) (end_at s n)
-
--- the answer that a reading comes to: beside a refusal the instruction is all zeros
-unfoldable pub answer : Reading Taken → Taken
-answer (got t n) = t
-answer (bad r p) = record { outcome = Refused r p; insn = no_instruction }
-
-unfoldable pub taken_at : List ℕ → ℕ → Taken
-taken_at s at = answer (item_at s at)

@@ -1,9 +1,9 @@
--- The number and the place of each outcome: the manual, sections 7 and 8.
-use Rattle.std.specs.Prelude.{Bool, true, false, ℕ}
+-- The numbers of what stands at a place, the place that is told with it, and whether it is a record: the manual, section 7.
+use Rattle.std.specs.Prelude.{Bool, true, false, ℕ, Option, Some, None}
+use Rattle.forms.specs.declared.Instruction.{Instruction}
+use Rattle.records.specs.Reading.{Reading, got, bad}
 use Rattle.records.specs.declared.Refusal.{Refusal}
 use Rattle.records.specs.declared.Refusal.TheVariants.{BadText, BadOperand, BadMark, Short}
-use Rattle.records.specs.declared.Outcome.{Outcome}
-use Rattle.records.specs.declared.Outcome.TheVariants.{Record, End, Refused}
 
 abbrev pub refusal_of : Refusal → ℕ
 refusal_of BadText = 3
@@ -11,19 +11,17 @@ refusal_of BadOperand = 4
 refusal_of BadMark = 11
 refusal_of Short = 12
 
-abbrev pub number_of : Outcome → ℕ
-number_of (Record c) = 0
-number_of (End c) = 0
-number_of (Refused r p) = refusal_of r
+abbrev pub number_of : {A : Type 0} → Reading A → ℕ
+number_of (got v n) = 0
+number_of (bad r p) = refusal_of r
 
 -- the next place, or the offending one
-abbrev pub place_of : Outcome → ℕ
-place_of (Record c) = c.at
-place_of (End c) = c.at
-place_of (Refused r p) = p
+abbrev pub place_of : {A : Type 0} → Reading A → ℕ
+place_of (got v n) = n
+place_of (bad r p) = p
 
 -- a record was read
-abbrev pub record_is : Outcome → Bool
-record_is (Record c) = true
-record_is (End c) = false
-record_is (Refused r p) = false
+abbrev pub record_is : Reading (Option Instruction) → Bool
+record_is (got (Some i) n) = true
+record_is (got None n) = false
+record_is (bad r p) = false

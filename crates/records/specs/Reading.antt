@@ -1,5 +1,5 @@
 -- Reading bytes from a place on, one at a time.
-use Rattle.std.specs.Prelude.{Bool, cond, ◌||◌, List, ℕ, ◌+◌, leb, ltb, eqb, length, get_or}
+use Rattle.std.specs.Prelude.{Bool, cond, ◌||◌, List, ℕ, ◌+◌, leb, ltb, eqb, length, get_or, Result, Ok, Err}
 use Rattle.words.specs.Bytes.{number_in}
 use Rattle.records.specs.declared.Refusal.{Refusal}
 use Rattle.records.specs.declared.Refusal.TheVariants.{BadMark, Short}
@@ -8,6 +8,11 @@ use Rattle.records.specs.declared.Refusal.TheVariants.{BadMark, Short}
 pub data Reading (A : Type 0) : Type 0 where
   got : A → ℕ → Reading A
   bad : Refusal → ℕ → Reading A
+
+-- a reading in two parts: what was answered, and the next or the offending place
+abbrev pub reading : {A : Type 0} → Result A Refusal → ℕ → Reading A
+reading (Ok v) n = got v n
+reading (Err r) n = bad r n
 
 -- one reading, then what follows from its value at its next place; a refusal ends it
 infixr 20 ◌▹◌

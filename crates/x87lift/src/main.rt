@@ -5,7 +5,6 @@ ghost use Rattle.std.specs.Prelude.{◌≤◌, length};
 ghost use Rattle.std.specs.Io.{ReadsAtMost};
 ghost use Rattle.x87lift.specs.Arguments.{Asks};
 
-use listing::Listed;
 use std::env::{Env, FillError};
 use std::io;
 use std::io::{Input, Print, Read};
@@ -31,70 +30,30 @@ fn asked_for(count: usize, first: &[u8]) -> Asked
     Asked::Help
 }
 
-// Writes a text to standard output.
-fn say(rt: &impl Print, text: &[u8]) -> io::Result<()> {
-    rt.write_all(text)
-}
-
 // What the program reads and writes, and its limits.
-fn help(rt: &impl Print) -> io::Result<()> {
-    say(rt, b"usage: x87lift < RECORDS > LISTING\n")?;
-    say(rt, b"       x87lift --version\n")?;
-    say(rt, b"\n")?;
-    say(
-        rt,
-        b"Reads a record for each decoded x87 instruction and an end mark, at most 16,384\n",
-    )?;
-    say(
-        rt,
-        b"bytes, from standard input, and lifts the instructions into formulas. x87rec\n",
-    )?;
-    say(rt, b"makes such records of a disassembly.\n")?;
-    say(rt, b"\n")?;
-    say(
-        rt,
-        b"Writes a listing of decimal numbers to standard output:\n",
-    )?;
-    say(
-        rt,
-        b"  n NUMBER KIND A B C                   a node, at most 1,024\n",
-    )?;
-    say(
-        rt,
-        b"  s NUMBER KIND A B C                   a statement, at most 256\n",
-    )?;
-    say(
-        rt,
-        b"  d DEPTH INPUTS TEMPORARIES SLOT..     the state behind the last instruction\n",
-    )?;
-    say(
-        rt,
-        b"  r NUMBER PLACE                        why the run stopped, and at which byte\n",
-    )?;
-    say(
-        rt,
-        b"x87show turns a listing into formulas that a person can read.\n",
-    )?;
-    say(rt, b"\n")?;
-    say(
-        rt,
-        b"The exit status cannot be set: that a run was refused is told by the row r.\n",
-    )
-}
+const HELP: [&str; 15] = [
+    "usage: x87lift < RECORDS > LISTING",
+    "       x87lift --version",
+    "",
+    "Reads a record for each decoded x87 instruction and an end mark, at most 16,384",
+    "bytes, from standard input, and lifts the instructions into formulas. x87rec",
+    "makes such records of a disassembly.",
+    "",
+    "Writes a listing of decimal numbers to standard output:",
+    "  n NUMBER KIND A B C                   a node, at most 1,024",
+    "  s NUMBER KIND A B C                   a statement, at most 256",
+    "  d DEPTH INPUTS TEMPORARIES SLOT..     the state behind the last instruction",
+    "  r NUMBER PLACE                        why the run stopped, and at which byte",
+    "x87show turns a listing into formulas that a person can read.",
+    "",
+    "The exit status cannot be set: that a run was refused is told by the row r.",
+];
 
-// How many bytes of text there are to write.
-fn written(l: Listed, room: usize) -> usize
-    ensures { result ≤ room }
-{
-    match l {
-        Listed::Bytes(n) => {
-            if n <= room {
-                return n;
-            }
-            0
-        }
-        Listed::Short => 0,
+fn help(rt: &impl Print) -> io::Result<()> {
+    for line in HELP {
+        println!(rt; "{line}")?;
     }
+    Ok(())
 }
 
 // Reads until a buffer is full or the input ends, and gives how many bytes it put at the buffer's start.
@@ -121,9 +80,10 @@ fn lift(rt: &(impl Input + Print)) -> io::Result<()> {
     let mut from = rt.reader();
     let n = read_full(&mut from, &mut input)?;
     let run = listing::run(&input[0..n], &mut nodes, &mut statements);
-    let text = listing::list(&nodes, &statements, run, &mut out);
-    let k = written(text, 139264);
-    rt.write_all(&out[0..k])
+    match listing::list(&nodes, &statements, run, &mut out) {
+        Some(size) => rt.write_all(&out[..size]),
+        None => Ok(()),
+    }
 }
 
 // Puts the word behind the program's name at a buffer's start and gives its length, 0 where there is no such word or no room for it.
@@ -153,7 +113,7 @@ fn main(rt: HostRuntime) -> io::Result<()> {
     let asked = asked_for(word_count(&rt), &first[0..n]);
     match asked {
         Asked::Run => lift(&rt),
-        Asked::Version => say(&rt, b"x87lift 0.1.0\n"),
+        Asked::Version => println!(rt; "x87lift 0.1.0"),
         Asked::Help => help(&rt),
     }
 }

@@ -1,7 +1,7 @@
 -- What a record's reading carries: each number within its bytes, each text of 32 bytes.
-use Rattle.std.specs.Prelude.{◌≡◌, Bool, true, false, cond, ◌||◌, List, [], ◌∷◌, leb, ltb, length, get_or, replicate}
+use Rattle.std.specs.Prelude.{◌≡◌, Bool, true, false, cond, ◌||◌, Option, Some, None, List, [], ◌∷◌, leb, ltb, length, get_or, replicate}
 use Rattle.std.proofs.Math.Path.{refl}
-use Rattle.std.proofs.Common.{◌∙◌, ap, pow-suc, arith, leb-true}
+use Rattle.std.proofs.Common.{◌∙◌, ap, subst, pow-suc, arith, leb-true}
 use Prim.Native.Nat.{ℕ, zero, suc, ◌+◌, ◌-◌, ◌^◌, ◌<◌}
 use Rattle.std.proofs.Math.Dec.{eqb}
 use Rattle.std.proofs.Math.ListN.{length-append, length-replicate}
@@ -10,11 +10,9 @@ use Rattle.texts.specs.declared.Text.{Text}
 use Rattle.forms.specs.declared.Operand.{Operand}
 use Rattle.forms.specs.declared.Instruction.{Instruction}
 use Rattle.records.specs.Reading.{Reading, got, bad, ◌▹◌, byte_at, tested_at, limited_at, either_at, number_at}
-use Rattle.records.specs.Format.{letters_at, text_at, no_text, register, other, absent, register_at, memory_at, operand_at, present_at, no_instruction, record_at, end_at, item_at, answer, taken_at}
+use Rattle.records.specs.Format.{letters_at, text_at, no_text, register, other, absent, register_at, memory_at, operand_at, present_at, record_at, end_at, taken_at}
 use Rattle.records.specs.declared.Refusal.{Refusal}
 use Rattle.records.specs.declared.Refusal.TheVariants.{BadText, BadOperand, BadMark, Short}
-use Rattle.records.specs.declared.Outcome.TheVariants.{End}
-use Rattle.records.specs.declared.Taken.{Taken}
 use Rattle.export.specs.Flat.{operand_of}
 
 -- Each entry is a byte
@@ -76,8 +74,10 @@ Long n l = length l ≡ n
 abbrev Any : ℕ → Type 0
 Any v = Unit {0}
 
-abbrev TakenFits : Taken → Type 0
-TakenFits t = InsnFits t.insn
+-- what is taken fits: a record's instruction does
+abbrev TakenFits : Option Instruction → Type 0
+TakenFits (Some i) = InsnFits i
+TakenFits None = Unit {0}
 
 module _ (s : List ℕ) (b : Bytes s) where
   byte-gives : (at : ℕ) → Gives (Below 256) (byte_at s at)
@@ -156,11 +156,6 @@ module _ (s : List ℕ) (b : Bytes s) where
   unfolding present_at
   present-gives t at = either OperandFits t (operand_at s at) (got absent at) (operand-gives at) (got_lem _ _ _ (register-fits no_text no_text_fits))
 
-  no-fits : InsnFits no_instruction
-  no-fits =
-      let f = register-fits no_text no_text_fits in
-      record { address = omega arith; mnemonic = no_text_fits; count = omega arith; three = refl; first = f; second = f; third = f }
-
   record-gives : (at : ℕ) → Gives TakenFits (record_at s at)
   unfolding record_at
   record-gives at =
@@ -174,20 +169,14 @@ module _ (s : List ℕ) (b : Bytes s) where
 
   end-gives : (n : ℕ) → Gives TakenFits (end_at s n)
   unfolding end_at
-  end-gives n = either TakenFits (eqb n (length s)) _ (bad BadMark n) (got_lem _ (record { outcome = End (record { at = n }); insn = no_instruction }) n no-fits) (bad_lem _ _ _)
+  end-gives n = either TakenFits (eqb n (length s)) (got None n) (bad BadMark n) (got_lem _ _ _ tt) (bad_lem _ _ _)
 
-  item-gives : (at : ℕ) → Gives TakenFits (item_at s at)
-  unfolding item_at
-  item-gives at =
+  taken-gives : (at : ℕ) → Gives TakenFits (taken_at s at)
+  unfolding taken_at
+  taken-gives at =
       after Any TakenFits (either_at 0x87 0x87 s at) _ (mark-gives 0x87 0x87 at) (λ x n₁ p.
       after Any TakenFits (either_at 0x49 0x45 s n₁) _ (mark-gives 0x49 0x45 n₁) (λ m n₂ q.
       either TakenFits (eqb m 0x49) (record_at s n₂) (end_at s n₂) (record-gives n₂) (end-gives n₂)))
 
-  answered : (m : Reading Taken) → Gives TakenFits m → InsnFits (answer m).insn
-  unfolding answer
-  answered (got t n) h = h.value
-  answered (bad r p) h = no-fits
-
-pub taken-fits : (s : List ℕ) (at : ℕ) → Bytes s → InsnFits (taken_at s at).insn
-unfolding taken_at
-taken-fits s at b = answered s b (item_at s at) (item-gives s b at)
+pub taken-fits : (s : List ℕ) (at next : ℕ) (i : Instruction) → Bytes s → taken_at s at ≡ got (Some i) next → InsnFits i
+taken-fits s at next i b e = (subst (Gives TakenFits) e (taken-gives s b at)).value

@@ -1,16 +1,13 @@
-use Rattle.std.proofs.Common.{sym, ◌∙◌}
-use Rattle.export.proofs.Lifting.{gives, steps_on, stops}
+use Rattle.export.proofs.Lifting.{gives, took, refused, steps_on, ends, stops}
 use Rattle.export.proofs.lift_record_in.Goals as goal
 
-pub returns-then-is_record : goal.returns-then-is_record
-returns-then-is_record c =
-    let g = gives _ _ _ _ _ _ _ c.classify-classified.ensures c.detail-detail.ensures c.site_of-site.ensures _ _ _ _ _ c.lift_in-answer.ensures c.beside.ensures in
-    rw (← c.record_at-t.ensures)
-    (steps_on _ _ _ _ _ _ c.requires.1 c.requires.0 _ _ _ _ _ _ (sym c.is_record.ensures ∙ c.if-is_record.true) g
-    (rw (← c.place-next.ensures) c.tell.ensures))
+pub returns-in-Ok-Some : goal.returns-in-Ok-Some
+returns-in-Ok-Some c =
+    let g = gives _ _ _ _ _ _ _ c.classify-classified.ensures c.detail-detail.ensures c.site_of-site.ensures _ _ _ _ _ c.lift_in-answer.ensures c.beside-detail.ensures in
+    steps_on _ _ _ _ _ c.requires.1 c.requires.0 (took _ c.record_at.ensures.0 c.new-reader.ensures.0 c.in-Ok-Some.is c.in-Ok-Some.field-0-is) _ _ _ _ _ _ g c.tell.ensures
 
-pub returns : goal.returns
-returns c =
-    rw (← c.record_at-t.ensures)
-    (stops _ _ _ _ _ _ c.requires.1 c.requires.0 _ _ (sym c.is_record.ensures ∙ c.if-is_record.false) c.outcome_number.ensures
-    (rw (← c.place-next.ensures) c.lay.ensures))
+pub returns-in-Ok-None : goal.returns-in-Ok-None
+returns-in-Ok-None c = ends _ _ _ _ _ c.requires.1 c.requires.0 (took _ c.record_at.ensures.0 c.new-reader.ensures.0 c.in-Ok-None.is c.in-Ok-None.field-0-is) _ c.lay.ensures
+
+pub returns-in-Err : goal.returns-in-Err
+returns-in-Err c = stops _ _ _ _ _ c.requires.1 c.requires.0 (refused _ c.record_at.ensures.0 c.new-reader.ensures.0 c.in-Err.is) _ c.number.ensures _ c.lay-in-Err.ensures

@@ -1,15 +1,29 @@
-use Rattle.std.proofs.Common.{le-leb}
+use Rattle.std.proofs.Common.{le-leb, refl}
 use Rattle.export.proofs.Calls.{tells}
+use Rattle.export.proofs.Lifting.{took, refused}
 use Rattle.export.specs.Answers.{read_into}
 use Rattle.export.proofs.read_in.Goals as goal
 
-pub returns : goal.returns
+pub returns-in-Ok-Some : goal.returns-in-Ok-Some
 unfolding read_into
-returns c =
-    let t = c.record_at-t.ensures in
+returns-in-Ok-Some c =
+    let e = took _ c.record_at.ensures.0 c.new-reader.ensures.0 c.in-Ok-Some.is c.in-Ok-Some.field-0-is in
     let h = le-leb _ _ c.requires.0 in
     let k = c.requires.1 in
-    record {
-      told = rw h (tells _ _ _ k (rw t at c.outcome_number.ensures) (rw (← t, ← c.is_record-there.ensures, ← c.place.ensures, ← c.bit.ensures) c.lay.ensures));
-      bytes = rw (le-leb _ _ k, h, ← t, ← c.is_record-there.ensures) c.write_if.ensures;
-    }
+    rw (← e) (record { told = rw h (tells _ _ _ k refl c.lay.ensures); bytes = rw (le-leb _ _ k, h) c.write.ensures })
+
+pub returns-in-Ok-None : goal.returns-in-Ok-None
+unfolding read_into
+returns-in-Ok-None c =
+    let e = took _ c.record_at.ensures.0 c.new-reader.ensures.0 c.in-Ok-None.is c.in-Ok-None.field-0-is in
+    let h = le-leb _ _ c.requires.0 in
+    let k = c.requires.1 in
+    rw (← e) (record { told = rw h (tells _ _ _ k refl c.lay-in-Ok-None.ensures); bytes = rw (le-leb _ _ k, h) })
+
+pub returns-in-Err : goal.returns-in-Err
+unfolding read_into
+returns-in-Err c =
+    let e = refused _ c.record_at.ensures.0 c.new-reader.ensures.0 c.in-Err.is in
+    let h = le-leb _ _ c.requires.0 in
+    let k = c.requires.1 in
+    rw (← e) (record { told = rw h (tells _ _ _ k c.number.ensures c.lay-in-Err.ensures); bytes = rw (le-leb _ _ k, h) })

@@ -1,6 +1,6 @@
 use Rattle.std.proofs.Common.{le-leb}
+use Rattle.std.proofs.lemmas.Bool.{lt-leb}
 use Rattle.export.specs.Steps.{told_of}
-use borrow.Author.Tests.{lt-leb}
 use Rattle.export.proofs.tell.Goals as goal
 
 pub returns-then-answer-le2 : goal.returns-then-answer-le2

@@ -1,23 +1,23 @@
--- One turn of a run: what it makes of what was taken, whatever the run goes on to.
-use Rattle.std.specs.Prelude.{◌≡◌, true, false, cond, List, ℕ}
+-- One turn of a run: what it makes of what is taken, whatever the run goes on to.
+use Rattle.std.specs.Prelude.{◌≡◌, List, Some, ℕ}
+use Rattle.std.specs.declared.ops.ControlFlow.{ControlFlow}
+use Rattle.std.specs.declared.ops.ControlFlow.TheVariants.{Break, Continue}
+use Rattle.forms.specs.declared.Instruction.{Instruction}
 use Rattle.lists.specs.declared.State.{State}
-use Rattle.records.specs.Numbers.{place_of, record_is}
-use Rattle.records.specs.declared.Taken.{Taken}
+use Rattle.records.specs.Format.{taken_at}
+use Rattle.records.specs.Reading.{got}
+use Rattle.reader.specs.declared.Reader.{Reader}
 use Rattle.lifter.specs.Lift.{lift_of}
-use Rattle.listing.specs.Run.{Ran, after, lifted, stopped_at}
-use Rattle.listing.specs.declared.Progress.{Progress}
-
-abbrev pub halted_at : State → ℕ → ℕ → Progress
-halted_at s number place = record { stop = stopped_at s number place; on = false }
-
-abbrev pub going_on : State → Progress
-going_on s = record { stop = stopped_at s 0 0; on = true }
+use Rattle.listing.specs.Run.{Ran, ended, after, lifted}
+use Rattle.listing.specs.declared.Stop.{Stop}
 
 -- where a run has stopped, or what it comes to as it goes on
-abbrev pub goes : Progress → List ℕ → List ℕ → (State → List ℕ → List ℕ → Ran) → Ran
-goes g n m on = cond g.on (on g.stop.state n m) (record { run = g.stop; nodes = n; statements = m })
+abbrev pub goes : ControlFlow Stop State → List ℕ → List ℕ → (State → List ℕ → List ℕ → Ran) → Ran
+goes (Continue s) n m on = on s n m
+goes (Break stop) n m on = ended stop n m
 
 -- what `turn` gives back and leaves: it goes on behind a record only
-pub record Turned (t : Taken) (at : ℕ) (s : State) (n m : List ℕ) (g : Progress) (n' m' : List ℕ) : Type 0 where
-  pub comes : (on : ℕ → State → List ℕ → List ℕ → Ran) → after t.outcome s n m (λ next. lifted (lift_of s t.insn n m) n m at (on next)) ≡ goes g n' m' (on (place_of t.outcome))
-  pub read : g.on ≡ true → record_is t.outcome ≡ true
+pub record Turns (old : Reader) (s : State) (n m : List ℕ) (r : ControlFlow Stop State) (new : Reader) (n' m' : List ℕ) : Type 0 where
+  pub input : new.input ≡ old.input
+  pub comes : (on : ℕ → State → List ℕ → List ℕ → Ran) → after (taken_at old.input.now old.at) s n m (λ i next. lifted (lift_of s i n m) n m old.at (on next)) ≡ goes r n' m' (on new.at)
+  pub read : (s' : State) → r ≡ Continue s' → (i : Instruction) × (taken_at old.input.now old.at ≡ got (Some i) new.at)

@@ -1,15 +1,16 @@
--- How the code carries a reading: the value beside where it goes on.
-use Rattle.std.specs.Prelude.{ℕ}
-use Rattle.records.specs.Reading.{Reading, got, bad}
-use Rattle.records.specs.declared.Next.{Next}
-use Rattle.records.specs.declared.Next.TheVariants.{At, Stop}
+-- How the code reads: with a cursor that moves.
+use Rattle.std.specs.Prelude.{◌≡◌, List, ℕ, ◌+◌, cond, leb, length, Result}
+use Rattle.words.specs.Bytes.{bytes_at}
+use Rattle.records.specs.Reading.{Reading, got, bad, reading}
+use Rattle.records.specs.declared.Cursor.{Cursor}
+use Rattle.records.specs.declared.Refusal.{Refusal}
+use Rattle.records.specs.declared.Refusal.TheVariants.{Short}
 
--- a reading that has come to the value v, unless it was refused
-unfoldable pub read : {A : Type 0} → A → Next → Reading A
-read v (At n) = got v n
-read v (Stop r p) = bad r p
+-- a cursor's reading: its answer, and where it leaves the cursor
+pub record Reads {A : Type 0} (f : List ℕ → ℕ → Reading A) (old new : Cursor) (r : Result A Refusal) : Type 0 where
+  pub comes : reading r new.at ≡ f old.input.now old.at
+  pub input : new.input ≡ old.input
 
--- reading on from there, unless it was refused
-unfoldable pub on : {A : Type 0} → Next → (ℕ → Reading A) → Reading A
-on (At n) f = f n
-on (Stop r p) f = bad r p
+-- the n bytes at a place
+unfoldable pub chunk_at : ℕ → List ℕ → ℕ → Reading (List ℕ)
+chunk_at n s at = cond (leb (at + n) (length s)) (got (bytes_at s at n) (at + n)) (bad Short (length s))

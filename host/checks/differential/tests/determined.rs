@@ -46,27 +46,44 @@ fn parameters(text: &str) -> Vec<&str> {
     out
 }
 
-/// The public calls of one source text, whose contracts stand below `path`.
+/// The type whose methods a line begins: `impl<'a> Reader<'a> {` is `Reader`.
+fn methods_of(line: &str) -> Option<&str> {
+    let rest = line.strip_prefix("impl")?.strip_suffix(" {")?;
+    let of = rest.rsplit("> ").next().expect("a type").trim();
+    of.split('<').next()
+}
+
+/// The public calls of one source text, whose contracts stand below `path`:
+/// its functions, and the methods of its types.
 fn public(krate: &str, path: &str, text: &str) -> Vec<Call> {
     let mut out = Vec::new();
-    for start in ["\npub fn ", "\npub extern \"C\" fn "] {
-        for (place, _) in text.match_indices(start) {
-            let rest = &text[place + start.len()..];
-            let name = rest.split(['(', '<']).next().expect("a name");
-            let open = rest.find('(').expect("parameters") + 1;
-            let lent = parameters(&rest[open..])
-                .iter()
-                .enumerate()
-                .filter(|(_, p)| p.contains(": &mut [") || p.contains(" mut ["))
-                .map(|(k, _)| k)
-                .collect();
-            out.push(Call {
-                krate: krate.to_owned(),
-                name: name.to_owned(),
-                contract: format!("{path}.{name}"),
-                lent,
-            });
+    let mut within = None;
+    let mut place = 0;
+    for line in text.split_inclusive('\n') {
+        let rest = &text[place..];
+        place += line.len();
+        if !line.starts_with([' ', '\n']) {
+            within = methods_of(line.trim_end());
         }
+        let starts = ["pub fn ", "pub extern \"C\" fn ", "    pub fn "];
+        let Some(rest) = starts.iter().find_map(|start| rest.strip_prefix(start)) else {
+            continue;
+        };
+        let name = rest.split(['(', '<']).next().expect("a name");
+        let open = rest.find('(').expect("parameters") + 1;
+        let lent = parameters(&rest[open..])
+            .iter()
+            .enumerate()
+            .filter(|(_, p)| p.contains("&mut ") || p.contains(" mut ["))
+            .map(|(k, _)| k)
+            .collect();
+        let of = within.map(|of| format!(".{of}")).unwrap_or_default();
+        out.push(Call {
+            krate: krate.to_owned(),
+            name: name.to_owned(),
+            contract: format!("{path}{of}.{name}"),
+            lent,
+        });
     }
     out
 }
@@ -106,8 +123,7 @@ fn calls() -> Vec<Call> {
 }
 
 /// What the theorem must state of a call. `trim` gives a reference back, of
-/// which its bytes are determined; a function on a
-/// reader has its contract as a formula.
+/// which its bytes are determined.
 fn expected(call: &Call) -> String {
     let Call {
         krate, contract, ..
@@ -116,10 +132,6 @@ fn expected(call: &Call) -> String {
     let key = format!("pub {krate}·{name}");
     match (krate.as_str(), name.as_str()) {
         ("texts", "trim") => format!("{key} : Fixes {contract}.Reads.Post (λ κ r x. r.now)"),
-        ("reader", "new" | "moved" | "take") => format!(
-            "{key}-says : {{M : Type 1}} {{𝓤 : Ura M}} (𝓛 : Logic 𝓤) (memory : _) (run : _) (κ : _) (a : _) (t : _) (e : _) → (Rattle.{krate}.specs.contracts.{}.clauses 𝓛 memory run κ a).ensures tt t e ≡ (connectives 𝓤).⌜◌⌝",
-            call.name
-        ),
         _ => {
             let which = ["", "₁", "₂", "₃", "₄"][call.lent.len()];
             let slices: String = call
@@ -138,14 +150,14 @@ fn plain(text: &str) -> String {
 }
 
 /// Whether the theorem states this of a call, and no more before its proof
-/// begins; a formula is followed by the claim that it states.
+/// begins.
 fn stated(theorem: &str, call: &Call) -> bool {
     let name = format!("{}·{}", call.krate, call.name.replace('_', "-"));
     let statement = expected(call);
     let proof = [format!(" {name} κ "), " unfolding ".to_owned()];
-    theorem.split_once(&statement).is_some_and(|(_, rest)| {
-        statement.ends_with('⌝') || proof.iter().any(|start| rest.starts_with(start))
-    })
+    theorem
+        .split_once(&statement)
+        .is_some_and(|(_, rest)| proof.iter().any(|start| rest.starts_with(start)))
 }
 
 /// The calls of which the theorem does not state what it must.
@@ -189,8 +201,8 @@ fn another_statement_is_reported() {
     assert_eq!(said(&format!("{lift}{lent}"), lift), ["lifter::lift"]);
     assert_eq!(
         said(
-            "reader.specs.contracts.take.clauses",
-            "reader.specs.contracts.new.clauses"
+            "reader.proofs.Reader.take.Reads",
+            "reader.proofs.Reader.record_at.Reads"
         ),
         ["reader::take"]
     );

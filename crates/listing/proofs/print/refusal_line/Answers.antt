@@ -1,12 +1,12 @@
-use Rattle.std.proofs.Common.{arith, eq-eqb, ne_eqb}
+use Rattle.std.proofs.Common.{arith}
 use Rattle.listing.specs.Listing.{refusal_line}
 use Rattle.writing.specs.Laws.{nothing}
 use Rattle.listing.proofs.print.refusal_line.Goals as goal
 
-pub returns-then-number-eq0 : goal.returns-then-number-eq0
+pub returns-in-Some : goal.returns-in-Some
 unfolding refusal_line
-returns-then-number-eq0 c = rw (eq-eqb _ _ c.if-number-eq0.true) (nothing (omega arith) (omega arith))
+returns-in-Some c = rw c.in-Some.is c.line.ensures
 
-pub returns : goal.returns
+pub returns-in-None : goal.returns-in-None
 unfolding refusal_line
-returns c = rw (ne_eqb _ _ c.if-number-eq0.false) c.line.ensures
+returns-in-None c = rw c.in-None.is (nothing (omega arith) (omega arith))
