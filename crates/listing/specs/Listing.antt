@@ -1,11 +1,8 @@
 -- The listing: nodes, statements, the state, and a refusal.
-use Rattle.std.specs.Prelude.{◌≡◌, cond, List, [], ◌∷◌, ◌++◌, ℕ, eqb, leb, length, get_or, take}
-use Rattle.std.proofs.lemmas.List.Edits.{sets}
+use Rattle.std.specs.Prelude.{cond, List, [], ◌∷◌, ◌++◌, ℕ, eqb, get_or, take, Option, Some, None}
 use Rattle.lists.specs.declared.State.{State}
 use Rattle.listing.specs.Text.{line, rows}
 use Rattle.listing.specs.declared.Stop.{Stop}
-use Rattle.listing.specs.declared.Listed.{Listed}
-use Rattle.listing.specs.declared.Listed.TheVariants.{Bytes, Short}
 
 -- the eight places from the top
 abbrev pub places : State → List ℕ
@@ -27,11 +24,6 @@ text_of nodes statements r =
     rows 110 nodes r.state.nodes ++ (rows 115 statements r.state.statements ++ (state_line r.state ++ refusal_line r.number r.place))
 
 -- the number of the answer: the manual, section 7
-abbrev pub number_of : Listed → ℕ
-number_of (Bytes n) = 0
-number_of Short = 10
-
--- how many bytes the text has, where they fit; beside 0 it stands in front, and beside 10 nothing is written
-pub record Lists (text : List ℕ) (r : Listed) (old new : List ℕ) : Type 0 where
-  pub answer : r ≡ cond (leb (length text) (length old)) (Bytes (length text)) Short
-  pub bytes : new ≡ cond (eqb (number_of r) 0) (sets old 0 text) old
+abbrev pub number_of : Option ℕ → ℕ
+number_of (Some n) = 0
+number_of None = 10

@@ -6,9 +6,11 @@ mod print;
 ghost use Rattle.std.specs.Prelude.{◌≡◌, length};
 ghost use Rattle.listing.specs.Run.{Runs, run_from, run_of, stopped_at};
 ghost use Rattle.listing.specs.Inside.Turn.{Turned, goes, going_on, halted_at};
-ghost use Rattle.listing.specs.Listing.{Lists, text_of};
+ghost use Rattle.listing.specs.Listing.{text_of};
+ghost use Rattle.writing.specs.Fits.{Fits};
 
 use lists::State;
+use print::Listing;
 use records::{Outcome, Taken};
 
 // Where a run stopped: its state, and a refusal's number and place, 0 and 0 where there is none.
@@ -17,13 +19,6 @@ pub struct Stop {
     pub state: State,
     pub number: u32,
     pub place: usize,
-}
-
-// The number of bytes that were written, or that they do not fit.
-#[derive(Clone, Copy)]
-pub enum Listed {
-    Bytes(usize),
-    Short,
 }
 
 // What a run has come to: where it stops if it stops here, and whether it goes on.
@@ -125,15 +120,14 @@ pub fn run(input: &[u8], nodes: &mut [u64], statements: &mut [u64]) -> Stop
     end.stop
 }
 
-// Writes the listing of a run over these lists, or nothing where it does not fit.
-pub fn list(nodes: &[u64], statements: &[u64], run: Stop, out: &mut [u8]) -> Listed
-    ensures { Lists (text_of nodes.now statements.now run) result out.old out.new }
+// Writes the listing of a run over these lists and gives its length, or writes nothing where it does not fit.
+pub fn list(nodes: &[u64], statements: &[u64], run: Stop, out: &mut [u8]) -> Option<usize>
+    ensures { Fits (text_of nodes.now statements.now run) result out.old out.new }
 {
-    let mut none = [0u8; 0];
-    let n = print::text(&mut none, nodes, statements, run);
-    if n <= out.len() {
-        print::text(out, nodes, statements, run);
-        return Listed::Bytes(n);
-    }
-    Listed::Short
+    let listing = Listing {
+        nodes,
+        statements,
+        run: &run,
+    };
+    writing::fitted(&listing, out)
 }

@@ -5,7 +5,6 @@ ghost use Rattle.std.specs.Prelude.{◌≤◌, length};
 ghost use Rattle.std.specs.Io.{ReadsAtMost};
 ghost use Rattle.x87lift.specs.Arguments.{Asks};
 
-use listing::Listed;
 use std::env::{Env, FillError};
 use std::io;
 use std::io::{Input, Print, Read};
@@ -82,21 +81,6 @@ fn help(rt: &impl Print) -> io::Result<()> {
     )
 }
 
-// How many bytes of text there are to write.
-fn written(l: Listed, room: usize) -> usize
-    ensures { result ≤ room }
-{
-    match l {
-        Listed::Bytes(n) => {
-            if n <= room {
-                return n;
-            }
-            0
-        }
-        Listed::Short => 0,
-    }
-}
-
 // Reads until a buffer is full or the input ends, and gives how many bytes it put at the buffer's start.
 fn read_full(from: &mut impl Read, buf: &mut [u8]) -> io::Result<usize>
     ensures { ReadsAtMost result buf.new }
@@ -121,9 +105,8 @@ fn lift(rt: &(impl Input + Print)) -> io::Result<()> {
     let mut from = rt.reader();
     let n = read_full(&mut from, &mut input)?;
     let run = listing::run(&input[0..n], &mut nodes, &mut statements);
-    let text = listing::list(&nodes, &statements, run, &mut out);
-    let k = written(text, 139264);
-    rt.write_all(&out[0..k])
+    let n = listing::list(&nodes, &statements, run, &mut out).unwrap_or(0);
+    rt.write_all(&out[..n])
 }
 
 // Puts the word behind the program's name at a buffer's start and gives its length, 0 where there is no such word or no room for it.
