@@ -2,7 +2,7 @@
 -- Every exported call that is lent words to tell goes by one rule (`Tells` in export/specs/Answers). Beside an answer other than 0 these words are 0,
 -- but a place that is named and beside a decline its detail, for whatever bytes, records and lists the call is given; a call of lift on a record that was lifted,
 -- declined or not, tells the next place and 1
-use Rattle.std.specs.Prelude.{◌≡◌, refl, Bool, true, false, cond, ◌&&◌, Option, Some, None, List, [], ◌∷◌, ℕ, eqb, leb, take, replicate}
+use Rattle.std.specs.Prelude.{◌≡◌, refl, Bool, true, false, cond, ◌&&◌, Option, Some, None, Result, Ok, Err, List, [], ◌∷◌, ℕ, eqb, leb, take, replicate}
 use Rattle.std.proofs.Common.{arith}
 use Rattle.texts.specs.Bytes.{all}
 use Rattle.forms.specs.Classify.{classify_of}
@@ -25,8 +25,8 @@ use Rattle.export.specs.Lifts.{Lifted, small_is, state_in, done, lifted_in, lift
 use Rattle.export.specs.Steps.{Stepped, called_of, told_of, step_of, stepped_of}
 use Rattle.export.specs.Values.{wide, found_said}
 use Rattle.smtwriter.specs.Written.{written_of}
-use Rattle.smtwriter.specs.declared.Written.{Written}
-use Rattle.smtwriter.specs.declared.Written.TheVariants as written_as
+use Rattle.smtwriter.specs.declared.WriteError.{WriteError}
+use Rattle.smtwriter.specs.declared.WriteError.TheVariants as write_error
 use Rattle.smtreader.specs.declared.Reading.{Reading}
 use Rattle.smtreader.specs.declared.Reading.TheVariants as reading-as
 use Rattle.export.specs.Texts.{written_said, read_said}
@@ -138,12 +138,12 @@ image-beside image low high = way (read_of image (wide low high))
 pub text-beside : (w : List ℕ) (n root room : ℕ) → let x = written_said (written_of w n root room) in leb x.number 8 ≡ false → x.words ≡ 0 ∷ []
 text-beside w n root room = way (written_of w n root room)
   where
-    way : (a : Written) → leb (written_said a).number 8 ≡ false → (written_said a).words ≡ 0 ∷ []
-    way (written_as.Bytes k) e = let z : true ≡ false = e in let t : ◌≡◌ {A = ℕ} 0 1 = cc in absurd (omega arith)
-    way (written_as.Fault i) e = let z : true ≡ false = e in let t : ◌≡◌ {A = ℕ} 0 1 = cc in absurd (omega arith)
-    way written_as.Room e = refl
-    way written_as.NoRoot e = refl
-    way written_as.Short e = refl
+    way : (a : Result ℕ WriteError) → leb (written_said a).number 8 ≡ false → (written_said a).words ≡ 0 ∷ []
+    way (Ok k) e = let z : true ≡ false = e in let t : ◌≡◌ {A = ℕ} 0 1 = cc in absurd (omega arith)
+    way (Err (write_error.Fault i)) e = let z : true ≡ false = e in let t : ◌≡◌ {A = ℕ} 0 1 = cc in absurd (omega arith)
+    way (Err write_error.Room) e = refl
+    way (Err write_error.NoRoot) e = refl
+    way (Err write_error.Short) e = refl
 
 -- WHAT A TEXT SAYS: a count of nodes stands beside 0, a place beside 41
 pub reading-beside : (a : Reading) → (read_said a).number ≡ 6 → (read_said a).words ≡ 0 ∷ []

@@ -2,9 +2,11 @@
 -- Any two answers of a public call that meet its contract are equal, and so are the words that they leave in each slice that the call is lent.
 -- Each line cites the contract itself, as the toolchain has it of the source: `Post` is what the call's `ensures` claims, at its lifetimes κ and its arguments a,
 -- of an answer (r, s) and of the parameters at exit (x, y), of which what is lent is its `now`
-use Rattle.std.specs.Prelude.{◌≡◌, refl, Bool, true, false, cond, Option, Result, Ok, Err, List, [], ℕ, ◌<◌, eqb}
+use Rattle.std.specs.Prelude.{◌≡◌, refl, Bool, true, false, cond, Option, Result, Ok, Err, List, [], ◌∷◌, ℕ, ◌<◌}
 use Rattle.std.proofs.Common.{sym, ap, ◌∙◌, arith}
-use Rattle.std.proofs.lemmas.List.Edits.{sets}
+use seplogic.Ra.Ura.{Ura}
+use types.Logic.{Logic}
+use contract.Notation.{connectives}
 use Rattle.std.specs.Borrow.{Bor}
 use Rattle.records.specs.Reading.{Reading, reading}
 use Rattle.records.specs.declared.Refusal.{Refusal}
@@ -18,17 +20,21 @@ use Rattle.forms.specs.declared.Instruction.{Instruction}
 use Rattle.details.specs.Why.{detail_of}
 use Rattle.lifter.specs.Lift as lifter
 use Rattle.lifter.specs.declared.Lifted as lifter-declared
-use Rattle.writing.specs.Put.{Put}
+use Rattle.writing.specs.Bytes.{decimal, bits}
+use Rattle.writing.specs.Put.{InWords, Wrote}
+use Rattle.writing.specs.Fits.{Fits}
+use Rattle.writing.specs.declared.Writer.{Writer}
+use Rattle.words.specs.Wide.{val}
 use Rattle.listing.specs.Run.{Ran, Runs}
-use Rattle.listing.specs.Listing.{Lists, number_of}
 use Rattle.listing.specs.declared.Stop.{Stop}
 use Rattle.sorts.specs.declared.Verdict.{Verdict}
 use Rattle.evaluator.specs.Table.{table_after, Tables}
 use Rattle.evaluator.specs.Outcome.{column_after}
 use Rattle.evaluator.specs.declared.Outcome.{Outcome}
+use Rattle.smttext.specs.Names.{name_from, format_text, sort_text}
 use Rattle.smttext.specs.Text.{text_of}
 use Rattle.smtwriter.specs.Written.{bytes_after, Writes}
-use Rattle.smtwriter.specs.declared.Written.{Written}
+use Rattle.smtwriter.specs.declared.WriteError.{WriteError}
 use Rattle.smtlive.specs.Apart.{choices-apart}
 use Rattle.smttokens.specs.Taken.{shown, state, one_token}
 use Rattle.smtreader.specs.Text.{one-reading}
@@ -168,19 +174,18 @@ module _ {r s : ℕ} where
 tables : {w : List ℕ} {n : ℕ} {r s : Verdict} {old l m : List ℕ} → Tables w n r old l → Tables w n s old m → (r ≡ s) × (l ≡ m)
 tables {w} {n} {old = old} p q = follows (λ (v : Verdict). table_after v w n old) (p.verdict, p.table) (q.verdict, q.table)
 
-written : {w : List ℕ} {n root : ℕ} {r s : Written} {old l m : List ℕ} → Writes w n root r old l → Writes w n root s old m → (r ≡ s) × (l ≡ m)
-written {w} {root = root} {old = old} p q = follows (λ (a : Written). bytes_after a (text_of w root) old) (p.answer, p.bytes) (q.answer, q.bytes)
+written : {w : List ℕ} {n root : ℕ} {r s : Result ℕ WriteError} {old l m : List ℕ} → Writes w n root r old l → Writes w n root s old m → (r ≡ s) × (l ≡ m)
+written {w} {root = root} {old = old} p q = follows (λ (a : Result ℕ WriteError). bytes_after a (text_of w root) old) (p.answer, p.bytes) (q.answer, q.bytes)
 
 runs : {x : Ran} {r s : Stop} {l m l₂ m₂ : List ℕ} → Runs x r l l₂ → Runs x s m m₂ → (r ≡ s) × (l ≡ m) × (l₂ ≡ m₂)
 runs p q = (p.run ∙ sym q.run, p.nodes ∙ sym q.nodes, p.statements ∙ sym q.statements)
 
-put : {text old l m : List ℕ} {at r s : ℕ} → Put text at r old l → Put text at s old m → (r ≡ s) × (l ≡ m)
-put p q = (p.place ∙ sym q.place, p.bytes ∙ sym q.bytes)
+-- a writer's place and its bytes
+wrote : {text : List ℕ} {s t u : Writer} → InWords s → Wrote text s t → Wrote text s u → (t.at ≡ u.at) × (t.out.now ≡ u.out.now)
+wrote w p q = let x = p.put w in let y = q.put w in (x.place ∙ sym y.place, x.bytes ∙ sym y.bytes)
 
-listed : {text old l m : List ℕ} {r s : Option ℕ} → Lists text r old l → Lists text s old m → (r ≡ s) × (l ≡ m)
-listed {text} {old} p q =
-    let e = p.answer ∙ sym q.answer in
-    (e, p.bytes ∙ ap (λ (x : Option ℕ). cond (eqb (number_of x) 0) (sets old 0 text) old) e ∙ sym q.bytes)
+fitted : {text old l m : List ℕ} {r s : Option ℕ} → Fits text r old l → Fits text s old m → (r ≡ s) × (l ≡ m)
+fitted p q = (p.answer ∙ sym q.answer, p.bytes ∙ sym q.bytes)
 
 -- a reading's two parts are determined by it, and so is where a reader stands
 reading-same : {A : Type 0} (r s : Result A Refusal) {n m : ℕ} {x : Reading A} → reading r n ≡ x → reading s m ≡ x → (r ≡ s) × (n ≡ m)
@@ -711,19 +716,56 @@ export·x87-smt-write κ a r s x y = texts
 pub export·x87-smt-read : Determined₂ Rattle.export.proofs.smt.x87_smt_read.Reads.Post (λ κ x. x.1.0.now) (λ κ x. x.1.1.0.now)
 export·x87-smt-read κ a r s x y = readings
 
--- writing
+-- writing: what a sink takes is said in the words of its own relation, whatever the sink is ..
 
-pub writing·put : Determined₁ Rattle.writing.proofs.put.Reads.Post (λ κ x. x.0.now)
-writing·put κ a r s x y = put
+pub writing·put-says : {M : Type 1} {𝓤 : Ura M} (𝓛 : Logic 𝓤) (S : _) (sink : _) (dict : _) (memory : _) (run : _) (κ : _) (a : _) (t : _) (e : _)
+    → (Rattle.writing.specs.contracts.Sink.put.clauses S sink dict 𝓛 memory run κ a).ensures tt t e ≡ (connectives 𝓤).⌜◌⌝ (sink.took (a.1.0 ∷ []) a.0.now e.0.now)
+writing·put-says 𝓛 S sink dict memory run κ a t e = refl
 
-pub writing·all : Determined₁ Rattle.writing.proofs.all.Reads.Post (λ κ x. x.0.now)
-writing·all κ a r s x y = put
+pub writing·all-says : {M : Type 1} {𝓤 : Ura M} (𝓛 : Logic 𝓤) (S : _) (sink : _) (dict : _) (memory : _) (run : _) (κ : _) (a : _) (t : _) (e : _)
+    → (Rattle.writing.specs.contracts.Sink.all.clauses S sink dict 𝓛 memory run κ a).ensures tt t e ≡ (connectives 𝓤).⌜◌⌝ (sink.took a.1.0.now a.0.now e.0.now)
+writing·all-says 𝓛 S sink dict memory run κ a t e = refl
 
-pub writing·decimal : Determined₁ Rattle.writing.proofs.decimal.Reads.Post (λ κ x. x.0.now)
-writing·decimal κ a r s x y = put
+pub writing·decimal-says : {M : Type 1} {𝓤 : Ura M} (𝓛 : Logic 𝓤) (S : _) (sink : _) (dict : _) (memory : _) (run : _) (κ : _) (a : _) (t : _) (e : _)
+    → (Rattle.writing.specs.contracts.Sink.decimal.clauses S sink dict 𝓛 memory run κ a).ensures tt t e ≡ (connectives 𝓤).⌜◌⌝ (sink.took (decimal a.1.0) a.0.now e.0.now)
+writing·decimal-says 𝓛 S sink dict memory run κ a t e = refl
 
-pub writing·binary : Determined₁ Rattle.writing.proofs.binary.Reads.Post (λ κ x. x.0.now)
-writing·binary κ a r s x y = put
+pub writing·binary-says : {M : Type 1} {𝓤 : Ura M} (𝓛 : Logic 𝓤) (S : _) (sink : _) (dict : _) (memory : _) (run : _) (κ : _) (a : _) (t : _) (e : _)
+    → (Rattle.writing.specs.contracts.Sink.binary.clauses S sink dict 𝓛 memory run κ a).ensures tt t e ≡ (connectives 𝓤).⌜◌⌝ (sink.took (bits a.1.1.0 (val a.1.0)) a.0.now e.0.now)
+writing·binary-says 𝓛 S sink dict memory run κ a t e = refl
+
+-- .. of a writer it is `Wrote`, and of a text too
+
+pub writing·writer-says : {M : Type 1} {𝓤 : Ura M} (𝓛 : Logic 𝓤) (memory : _) (run : _) (κ : _) (a : _) (t : _) (e : _)
+    → (Rattle.writing.specs.contracts.WriterSink.put.clauses 𝓛 memory run κ a).ensures tt t e ≡ (connectives 𝓤).⌜◌⌝ (Wrote (a.1.0 ∷ []) a.0.now e.0.now)
+writing·writer-says 𝓛 memory run κ a t e = refl
+
+pub writing·write-says : {M : Type 1} {𝓤 : Ura M} (𝓛 : Logic 𝓤) (T : _) (text : _) (dict : _) (memory : _) (run : _) (κ : _) (a : _) (t : _) (e : _)
+    → (Rattle.writing.specs.contracts.Text.write.clauses T text dict 𝓛 memory run κ a).ensures tt t e ≡ (connectives 𝓤).⌜◌⌝ (Wrote (text.text a.0.now) a.1.0.now e.1.0.now)
+writing·write-says 𝓛 T text dict memory run κ a t e = refl
+
+pub writing·wrote : {text : List ℕ} {s t u : Writer} → InWords s → Wrote text s t → Wrote text s u → (t.at ≡ u.at) × (t.out.now ≡ u.out.now)
+writing·wrote = wrote
+
+pub writing·fitted : (T : _) (laws : _) (text : _) (dict : _) → Determined₁ (Rattle.writing.proofs.fitted.Reads.Post T laws text dict) (λ κ x. x.1.0.now)
+writing·fitted T laws text dict κ a r s x y = fitted
+
+-- smttext
+
+pub smttext·is-declared : Determined Rattle.smttext.proofs.is_declared.Reads.Post
+smttext·is-declared κ a r s x y = one
+
+pub smttext·name-says : {M : Type 1} {𝓤 : Ura M} (𝓛 : Logic 𝓤) (S : _) (sink : _) (dict : _) (memory : _) (run : _) (κ : _) (a : _) (t : _) (e : _)
+    → (Rattle.smttext.specs.contracts.name.clauses S sink dict 𝓛 memory run κ a).ensures tt t e ≡ (connectives 𝓤).⌜◌⌝ (sink.took (name_from a.1.0 a.1.1.0 a.1.1.1.0) a.0.now e.0.now)
+smttext·name-says 𝓛 S sink dict memory run κ a t e = refl
+
+pub smttext·format-says : {M : Type 1} {𝓤 : Ura M} (𝓛 : Logic 𝓤) (S : _) (sink : _) (dict : _) (memory : _) (run : _) (κ : _) (a : _) (t : _) (e : _)
+    → (Rattle.smttext.specs.contracts.format.clauses S sink dict 𝓛 memory run κ a).ensures tt t e ≡ (connectives 𝓤).⌜◌⌝ (sink.took (format_text a.1.0) a.0.now e.0.now)
+smttext·format-says 𝓛 S sink dict memory run κ a t e = refl
+
+pub smttext·sort-says : {M : Type 1} {𝓤 : Ura M} (𝓛 : Logic 𝓤) (S : _) (sink : _) (dict : _) (memory : _) (run : _) (κ : _) (a : _) (t : _) (e : _)
+    → (Rattle.smttext.specs.contracts.sort.clauses S sink dict 𝓛 memory run κ a).ensures tt t e ≡ (connectives 𝓤).⌜◌⌝ (sink.took (sort_text a.1.0) a.0.now e.0.now)
+smttext·sort-says 𝓛 S sink dict memory run κ a t e = refl
 
 -- listing
 
@@ -731,4 +773,4 @@ pub listing·run : Determined₂ Rattle.listing.proofs.run.Reads.Post (λ κ x. 
 listing·run κ a r s x y = runs
 
 pub listing·list : Determined₁ Rattle.listing.proofs.list.Reads.Post (λ κ x. x.1.1.1.0.now)
-listing·list κ a r s x y = listed
+listing·list κ a r s x y = fitted

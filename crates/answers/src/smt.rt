@@ -4,29 +4,27 @@ ghost use Rattle.smtwriter.specs.Written as smtwriter;
 ghost use Rattle.smtreader.specs.Numbers as smtreader;
 
 use smtreader::Reading;
-use smtwriter::Written;
+use smtwriter::WriteError;
 
-pub fn text_number(w: Written) -> u32
+pub fn text_number(w: Result<usize, WriteError>) -> u32
     ensures { result ≡ smtwriter.number_of w }
 {
     match w {
-        Written::Bytes(_) => 0,
-        Written::Fault(_) => 8,
-        Written::Room => 10,
-        Written::NoRoot => 31,
-        Written::Short => 32,
+        Ok(_) => 0,
+        Err(WriteError::Fault(_)) => 8,
+        Err(WriteError::Room) => 10,
+        Err(WriteError::NoRoot) => 31,
+        Err(WriteError::Short) => 32,
     }
 }
 
-pub fn text_place(w: Written) -> usize
+pub fn text_place(w: Result<usize, WriteError>) -> usize
     ensures { result ≡ smtwriter.place_of w }
 {
     match w {
-        Written::Bytes(k) => k,
-        Written::Fault(i) => i,
-        Written::Room => 0,
-        Written::NoRoot => 0,
-        Written::Short => 0,
+        Ok(k) => k,
+        Err(WriteError::Fault(i)) => i,
+        Err(_) => 0,
     }
 }
 

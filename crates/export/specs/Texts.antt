@@ -1,8 +1,8 @@
 -- What the calls on a root's text answer, tell and leave.
-use Rattle.std.specs.Prelude.{◌≡◌, true, false, cond, List, [], ◌∷◌, ℕ, length}
+use Rattle.std.specs.Prelude.{◌≡◌, true, false, cond, List, [], ◌∷◌, ℕ, length, Result}
 use Rattle.smttext.specs.Text.{text_of}
 use Rattle.smtwriter.specs.Written as smtwriter
-use Rattle.smtwriter.specs.declared.Written.{Written}
+use Rattle.smtwriter.specs.declared.WriteError.{WriteError}
 use Rattle.smtreader.specs.Text as smtreader
 use Rattle.smtreader.specs.Numbers as reading
 use Rattle.smtreader.specs.declared.Reading.{Reading}
@@ -10,7 +10,7 @@ use Rattle.export.specs.Answers.{Said, Tells}
 use Rattle.export.specs.Flat.{at_least}
 
 -- an answer's number, and the count of bytes or the node that it names
-abbrev pub written_said : Written → Said
+abbrev pub written_said : Result ℕ WriteError → Said
 written_said a = record { number = smtwriter.number_of a; words = smtwriter.place_of a ∷ [] }
 
 -- what writing the text says, and the bytes after it

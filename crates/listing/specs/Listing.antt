@@ -1,6 +1,5 @@
 -- The listing: nodes, statements, the state, and a refusal.
-use Rattle.std.specs.Prelude.{◌≡◌, cond, List, [], ◌∷◌, ◌++◌, ℕ, Option, Some, None, eqb, leb, length, get_or, take}
-use Rattle.std.proofs.lemmas.List.Edits.{sets}
+use Rattle.std.specs.Prelude.{cond, List, [], ◌∷◌, ◌++◌, ℕ, eqb, get_or, take, Option, Some, None}
 use Rattle.lists.specs.declared.State.{State}
 use Rattle.listing.specs.Text.{line, rows}
 use Rattle.listing.specs.declared.Stop.{Stop}
@@ -30,8 +29,3 @@ text_of nodes statements r =
 abbrev pub number_of : Option ℕ → ℕ
 number_of (Some n) = 0
 number_of None = 10
-
--- how many bytes the text has, where they fit; beside 0 it stands in front, and beside 10 nothing is written
-pub record Lists (text : List ℕ) (r : Option ℕ) (old new : List ℕ) : Type 0 where
-  pub answer : r ≡ cond (leb (length text) (length old)) (Some (length text)) None
-  pub bytes : new ≡ cond (eqb (number_of r) 0) (sets old 0 text) old

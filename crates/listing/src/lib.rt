@@ -6,9 +6,11 @@ mod print;
 ghost use Rattle.std.specs.Prelude.{◌≡◌, length};
 ghost use Rattle.listing.specs.Run.{Runs, refused_at, run_from, run_of};
 ghost use Rattle.listing.specs.Inside.Turn.{Turns};
-ghost use Rattle.listing.specs.Listing.{Lists, text_of};
+ghost use Rattle.listing.specs.Listing.{text_of};
+ghost use Rattle.writing.specs.Fits.{Fits};
 
 use lists::State;
+use print::Listing;
 use reader::Reader;
 use std::ops::ControlFlow;
 
@@ -89,15 +91,14 @@ pub fn run(input: &[u8], nodes: &mut [u64], statements: &mut [u64]) -> Stop
     turns(input, nodes, statements, start)
 }
 
-// Writes the listing of a run over these lists and gives the number of its bytes, or writes nothing where it does not fit.
+// Writes the listing of a run over these lists and gives its length, or writes nothing where it does not fit.
 pub fn list(nodes: &[u64], statements: &[u64], run: Stop, out: &mut [u8]) -> Option<usize>
-    ensures { Lists (text_of nodes.now statements.now run) result out.old out.new }
+    ensures { Fits (text_of nodes.now statements.now run) result out.old out.new }
 {
-    let mut none = [0u8; 0];
-    let n = print::text(&mut none, nodes, statements, run);
-    if n <= out.len() {
-        print::text(out, nodes, statements, run);
-        return Some(n);
-    }
-    None
+    let listing = Listing {
+        nodes,
+        statements,
+        run: &run,
+    };
+    writing::fitted(&listing, out)
 }

@@ -1,123 +1,104 @@
-// Writes the listing's text: each function is given a place and gives back the next.
-ghost use Rattle.std.specs.Prelude.{◌≡◌, get_or};
-ghost use Rattle.writing.specs.Put.{Put};
+// The listing's text.
+ghost use Rattle.std.specs.Prelude.{◌≡◌, [], ◌∷◌, get_or, take, length};
+ghost use Rattle.writing.specs.Put.{Wrote};
 ghost use Rattle.listing.specs.Text.{numbers, line, rows};
-ghost use Rattle.listing.specs.Listing.{places, state_line, refusal_line, text_of};
+ghost use Rattle.listing.specs.Listing.{state_line, refusal_line, text_of};
 
 use crate::{Refused, Stop};
 use lists::State;
+use writing::{Sink, Text, Writer};
+
+// Where a run stopped, and its lists.
+#[derive(Clone, Copy)]
+pub(crate) struct Listing<'a> {
+    pub(crate) nodes: &'a [u64],
+    pub(crate) statements: &'a [u64],
+    pub(crate) run: &'a Stop,
+}
+
+impl<'a> Text for Listing<'a> {
+    ghost text = { λ l. text_of l.nodes.now l.statements.now l.run.now };
+
+    fn write(&self, out: &mut Writer<'_>) {
+        let state = &self.run.state;
+        rows(out, b'n', self.nodes, state.nodes);
+        rows(out, b's', self.statements, state.statements);
+        state_line(out, state);
+        refusal_line(out, self.run.refused);
+    }
+}
+
+// A blank and a number.
+fn number(out: &mut Writer<'_>, v: u64)
+    ensures { Wrote (numbers (v ∷ [])) out.old out.new }
+{
+    out.put(b' ');
+    out.decimal(v);
+}
 
 // A blank before each number.
-fn numbers(out: &mut [u8], at: usize, values: &[u64]) -> usize
-    ensures { Put (numbers values.now) at result out.old out.new }
+fn numbers(out: &mut Writer<'_>, values: &[u64])
+    ensures { Wrote (numbers values.now) out.old out.new }
 {
-    let mut p = at;
-    let mut i = 0;
-    while i < values.len() {
-        let q = writing::put(out, p, 32);
-        p = writing::decimal(out, q, values[i]);
-        i += 1;
+    for v in values {
+        number(out, *v);
     }
-    p
 }
 
 // A letter, numbers, and the line's end.
-fn line(out: &mut [u8], at: usize, letter: u8, values: &[u64]) -> usize
-    ensures { Put (line letter values.now) at result out.old out.new }
+fn line(out: &mut Writer<'_>, letter: u8, values: &[u64])
+    ensures { Wrote (line letter values.now) out.old out.new }
 {
-    let p = writing::put(out, at, letter);
-    let q = numbers(out, p, values);
-    writing::put(out, q, 10)
+    out.put(letter);
+    numbers(out, values);
+    out.put(b'\n');
 }
 
-// A word of a list, 0 past its end.
-fn word(w: &[u64], i: usize) -> u64
-    ensures { result ≡ get_or w.now i 0 }
+// One line for each of the first rows of a list; past its end all words are 0.
+fn rows(out: &mut Writer<'_>, letter: u8, words: &[u64], count: u32)
+    ensures { Wrote (rows letter words.now count) out.old out.new }
 {
-    if i < w.len() { w[i] } else { 0 }
-}
-
-// One line for each of the first rows of a list.
-fn rows(out: &mut [u8], at: usize, letter: u8, w: &[u64], count: u32) -> usize
-    ensures { Put (rows letter w.now count) at result out.old out.new }
-{
-    let mut p = at;
-    let mut i = 0;
-    let n = count as usize;
-    while i < n {
+    let word = |j: usize| -> u64
+        ensures { result ≡ get_or words.entry.now j 0 }
+    { words.get(j).copied().unwrap_or(0) };
+    for i in 0..count as usize {
         let j = 4 * i;
-        let values = [
-            i as u64,
-            word(w, j),
-            word(w, j + 1),
-            word(w, j + 2),
-            word(w, j + 3),
-        ];
-        p = line(out, p, letter, &values);
-        i += 1;
+        line(
+            out,
+            letter,
+            &[i as u64, word(j), word(j + 1), word(j + 2), word(j + 3)],
+        );
     }
-    p
 }
 
-// The eight places from the top.
-fn places(s: State) -> [u64; 8]
-    ensures { result ≡ places s }
+// A blank before each of the first places from the top.
+fn places(out: &mut Writer<'_>, slots: &[u32; 8], depth: u32)
+    ensures wrote { Wrote (numbers (take depth slots.now)) out.old out.new }
+    ensures eight { length slots.now ≡ 8 }
 {
-    let a = s.slots;
-    [
-        a[0] as u64,
-        a[1] as u64,
-        a[2] as u64,
-        a[3] as u64,
-        a[4] as u64,
-        a[5] as u64,
-        a[6] as u64,
-        a[7] as u64,
-    ]
+    for slot in &slots[..slots.len().min(depth as usize)] {
+        number(out, *slot as u64);
+    }
 }
 
 // Depth, inputs, temporaries, and the used places.
-fn state_line(out: &mut [u8], at: usize, s: State) -> usize
-    ensures { Put (state_line s) at result out.old out.new }
+fn state_line(out: &mut Writer<'_>, s: &State)
+    ensures { Wrote (state_line s.now) out.old out.new }
 {
-    let p = places(s);
-    let values = [
-        s.depth as u64,
-        s.inputs as u64,
-        s.temporaries as u64,
-        p[0],
-        p[1],
-        p[2],
-        p[3],
-        p[4],
-        p[5],
-        p[6],
-        p[7],
-    ];
-    if s.depth < 8 {
-        let n = 3 + s.depth as usize;
-        return line(out, at, 100, &values[0..n]);
-    }
-    line(out, at, 100, &values)
+    out.put(b'd');
+    numbers(
+        out,
+        &[s.depth as u64, s.inputs as u64, s.temporaries as u64],
+    );
+    places(out, &s.slots, s.depth);
+    out.put(b'\n');
 }
 
 // A refusal's number and place, if there is one.
-fn refusal_line(out: &mut [u8], at: usize, refused: Option<Refused>) -> usize
-    ensures { Put (refusal_line refused) at result out.old out.new }
+fn refusal_line(out: &mut Writer<'_>, refused: Option<Refused>)
+    ensures { Wrote (refusal_line refused) out.old out.new }
 {
-    match refused {
-        Some(r) => line(out, at, 114, &[r.number as u64, r.place as u64]),
-        None => at,
+    if let Some(r) = refused {
+        line(out, b'r', &[r.number as u64, r.place as u64]);
     }
-}
-
-// The whole listing, from the first byte on.
-pub(crate) fn text(out: &mut [u8], nodes: &[u64], statements: &[u64], run: Stop) -> usize
-    ensures { Put (text_of nodes.now statements.now run) 0 result out.old out.new }
-{
-    let s = run.state;
-    let a = rows(out, 0, 110, nodes, s.nodes);
-    let b = rows(out, a, 115, statements, s.statements);
-    let c = state_line(out, b, s);
-    refusal_line(out, c, run.refused)
 }

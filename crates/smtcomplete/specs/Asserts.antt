@@ -17,6 +17,7 @@ use Rattle.writing.specs.Bytes.{bytes}
 use Rattle.smttext.specs.Fill.{filled}
 use Rattle.smttext.specs.Names.{kind_at, declared_is, name_of, format_text}
 use Rattle.smttext.specs.Text.{on, assertion, part}
+use Rattle.smttext.specs.declared.Part.TheVariants.{Assertions}
 use Rattle.smtgrammar.specs.declared.Place.{Place}
 use Rattle.smtgrammar.specs.State.{limit, Tables, no_line}
 use Rattle.smtgrammar.specs.Allowed.{line_ok, ok_at}
@@ -154,13 +155,13 @@ module _ (w m : List ℕ) (n : ℕ) (given : Given w m n) where
       past j l q f false y = let x = eqb-false i j y in omega arith
 
   -- THE THIRD PART
-  pub all-asserted : (t : Tables) (p : Place) → Defined w m n n t p → (i : ℕ) → i ≤ n → Moves (Asserted w m n i) t p (part 2 w (sorts w n) m i)
+  pub all-asserted : (t : Tables) (p : Place) → Defined w m n n t p → (i : ℕ) → i ≤ n → Moves (Asserted w m n i) t p (part Assertions w (sorts w n) m i)
   unfolding part
   all-asserted t p d zero h = record { tables = t; place = p; reach = stay (between t p); is = d.stands }
   all-asserted t p d (suc i) h = go (on m i) (eqb (kind_at w i) 26) refl refl (all-asserted t p d i (omega arith))
     where
-      go : (a b : Bool) → on m i ≡ a → eqb (kind_at w i) 26 ≡ b → Moves (Asserted w m n i) t p (part 2 w (sorts w n) m i)
-          → Moves (Asserted w m n (suc i)) t p (part 2 w (sorts w n) m i ++ cond (a && b) (assertion w (sorts w n) i) [])
+      go : (a b : Bool) → on m i ≡ a → eqb (kind_at w i) 26 ≡ b → Moves (Asserted w m n i) t p (part Assertions w (sorts w n) m i)
+          → Moves (Asserted w m n (suc i)) t p (part Assertions w (sorts w n) m i ++ cond (a && b) (assertion w (sorts w n) i) [])
       go true true e f s =
           let u = asserted-step i s.tables s.place s.is (rw (lt-ltb i n h) e) (eqb-true (kind_at w i) 26 f) in
           record { tables = u.tables; place = u.place; reach = both s.reach u.reach; is = u.is }

@@ -12,6 +12,7 @@ use Rattle.sorts.specs.Laws.{passed-room}
 use Rattle.sorts.specs.declared.Verdict.TheVariants.{Passed}
 use Rattle.smttext.specs.Names.{kind_at, declared_is}
 use Rattle.smttext.specs.Text.{on, part, text_by}
+use Rattle.smttext.specs.declared.Part.TheVariants.{Declarations, Definitions, Assertions}
 use Rattle.smttext.specs.Subset.{Kept, rank, compact}
 use Rattle.smtgrammar.specs.declared.Place.{Place}
 use Rattle.smtgrammar.specs.State.{limit, Tables, State, start}
@@ -66,9 +67,9 @@ module _ (w m : List ℕ) (n : ℕ) (given : Given w m n) where
       rw (le-leb 1 p.count (omega arith), none-owed w m n given n t p s, none-due t p s)
 
   -- the three parts, one behind the other
-  joined : (a : Moves (Declared w m n n) start.tables start.place (part 0 w (sorts w n) m n))
-      (b : Moves (Defined w m n n) a.tables a.place (part 1 w (sorts w n) m n))
-      (c : Moves (Asserted w m n n) b.tables b.place (part 2 w (sorts w n) m n)) → Whole w m n
+  joined : (a : Moves (Declared w m n n) start.tables start.place (part Declarations w (sorts w n) m n))
+      (b : Moves (Defined w m n n) a.tables a.place (part Definitions w (sorts w n) m n))
+      (c : Moves (Asserted w m n n) b.tables b.place (part Assertions w (sorts w n) m n)) → Whole w m n
   unfolding text_by
   joined a b c =
       let r = both a.reach (both b.reach c.reach) in
@@ -83,11 +84,11 @@ module _ (w m : List ℕ) (n : ℕ) (given : Given w m n) where
   whole : Whole w m n
   whole = go (all-declared w m n given n (omega arith))
     where
-      next : (a : Moves (Declared w m n n) start.tables start.place (part 0 w (sorts w n) m n))
-          (b : Moves (Defined w m n n) a.tables a.place (part 1 w (sorts w n) m n)) → Whole w m n
+      next : (a : Moves (Declared w m n n) start.tables start.place (part Declarations w (sorts w n) m n))
+          (b : Moves (Defined w m n n) a.tables a.place (part Definitions w (sorts w n) m n)) → Whole w m n
       next a b = joined a b (all-asserted w m n given b.tables b.place b.is n (omega arith))
 
-      go : Moves (Declared w m n n) start.tables start.place (part 0 w (sorts w n) m n) → Whole w m n
+      go : Moves (Declared w m n n) start.tables start.place (part Declarations w (sorts w n) m n) → Whole w m n
       go a = next a (all-defined w m n given a.tables a.place a.is n (omega arith))
 
 -- THE THEOREM: of a list that passes, whose words are words, with marks that are closed

@@ -14,6 +14,7 @@ use Rattle.words.specs.Tests.{and_l, and_r}
 use Rattle.sorts.specs.Lists.{field, sorts}
 use Rattle.smttext.specs.Names.{kind_at, declared_is}
 use Rattle.smttext.specs.Text.{on, declaration, part}
+use Rattle.smttext.specs.declared.Part.TheVariants.{Declarations}
 use Rattle.smtgrammar.specs.declared.Place.{Place}
 use Rattle.smtgrammar.specs.State.{limit, Tables, start}
 use Rattle.smtgrammar.specs.Allowed.{format_of}
@@ -273,13 +274,13 @@ module _ (w m : List ℕ) (n : ℕ) (given : Given w m n) where
       none j = rw (le-ltb j 0 (omega arith))
 
   -- THE FIRST PART
-  pub all-declared : (i : ℕ) → i ≤ n → Moves (Declared w m n i) start.tables start.place (part 0 w (sorts w n) m i)
+  pub all-declared : (i : ℕ) → i ≤ n → Moves (Declared w m n i) start.tables start.place (part Declarations w (sorts w n) m i)
   unfolding part
   all-declared zero h = record { tables = start.tables; place = start.place; reach = stay start; is = at-start }
   all-declared (suc i) h = go (on m i) (declared_is (kind_at w i)) refl refl (all-declared i (omega arith))
     where
-      go : (a b : Bool) → on m i ≡ a → declared_is (kind_at w i) ≡ b → Moves (Declared w m n i) start.tables start.place (part 0 w (sorts w n) m i)
-          → Moves (Declared w m n (suc i)) start.tables start.place (part 0 w (sorts w n) m i ++ cond (a && b) (declaration w (sorts w n) i) [])
+      go : (a b : Bool) → on m i ≡ a → declared_is (kind_at w i) ≡ b → Moves (Declared w m n i) start.tables start.place (part Declarations w (sorts w n) m i)
+          → Moves (Declared w m n (suc i)) start.tables start.place (part Declarations w (sorts w n) m i ++ cond (a && b) (declaration w (sorts w n) i) [])
       go true true e f s =
           let u = declared-step i s.tables s.place s.is (rw (lt-ltb i n h) e) f in
           record { tables = u.tables; place = u.place; reach = both s.reach u.reach; is = u.is }

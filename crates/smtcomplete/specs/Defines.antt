@@ -14,6 +14,7 @@ use Rattle.words.specs.Tests.{and_l, and_r}
 use Rattle.sorts.specs.Lists.{field, sorts}
 use Rattle.smttext.specs.Names.{kind_at, declared_is}
 use Rattle.smttext.specs.Text.{on, definition, part}
+use Rattle.smttext.specs.declared.Part.TheVariants.{Definitions}
 use Rattle.smtgrammar.specs.declared.Place.{Place}
 use Rattle.smtgrammar.specs.State.{limit, Tables}
 use Rattle.smtgrammar.specs.Next.{owed_from, entered, defined}
@@ -150,13 +151,13 @@ module _ (w m : List ℕ) (n : ℕ) (given : Given w m n) where
       same j = rw (le-ltb j 0 (omega arith)) (plain (ltb j n) (on m j) (declared_is (kind_at w j)))
 
   -- THE SECOND PART
-  pub all-defined : (t : Tables) (p : Place) → Declared w m n n t p → (i : ℕ) → i ≤ n → Moves (Defined w m n i) t p (part 1 w (sorts w n) m i)
+  pub all-defined : (t : Tables) (p : Place) → Declared w m n n t p → (i : ℕ) → i ≤ n → Moves (Defined w m n i) t p (part Definitions w (sorts w n) m i)
   unfolding part
   all-defined t p d zero h = record { tables = t; place = p; reach = stay (between t p); is = none-defined t p d }
   all-defined t p d (suc i) h = go (on m i) (declared_is (kind_at w i)) refl refl (all-defined t p d i (omega arith))
     where
-      go : (a b : Bool) → on m i ≡ a → declared_is (kind_at w i) ≡ b → Moves (Defined w m n i) t p (part 1 w (sorts w n) m i)
-          → Moves (Defined w m n (suc i)) t p (part 1 w (sorts w n) m i ++ cond (a && not b) (definition w (sorts w n) i) [])
+      go : (a b : Bool) → on m i ≡ a → declared_is (kind_at w i) ≡ b → Moves (Defined w m n i) t p (part Definitions w (sorts w n) m i)
+          → Moves (Defined w m n (suc i)) t p (part Definitions w (sorts w n) m i ++ cond (a && not b) (definition w (sorts w n) i) [])
       go true false e f s =
           let u = defined-step i s.tables s.place s.is (rw (lt-ltb i n h) e) f in
           record { tables = u.tables; place = u.place; reach = both s.reach u.reach; is = u.is }

@@ -5,6 +5,8 @@ use Rattle.needs.specs.Needed.{marks}
 use Rattle.smttext.specs.Fill.{fill}
 use Rattle.smttext.specs.Names.{kind_at, declared_is, name_of, format_text, sort_text}
 use Rattle.smttext.specs.Terms.{term_text}
+use Rattle.smttext.specs.declared.Part.{Part}
+use Rattle.smttext.specs.declared.Part.TheVariants.{Declarations, Definitions, Assertions}
 
 -- the term of node i of the list w
 abbrev pub term_at : List ℕ → ℕ → List ℕ
@@ -26,25 +28,29 @@ module _ (w s : List ℕ) (i : ℕ) where
       fill "(assert (= ((_ to_fp %) %) %))\n"
       (format_text (get_or s (field w i 1) 0) ∷ name_of w i ∷ name_of w (field w i 1) ∷ [])
 
--- the three parts of a text: 0 declares, 1 defines, 2 asserts
-abbrev pub in_part : ℕ → ℕ → Bool
-in_part p k = cond (eqb p 0) (declared_is k) (cond (eqb p 1) (not (declared_is k)) (eqb k 26))
+-- the parts of a text: whether a node of kind k has a line there, and the line of node i
+abbrev pub in_part : Part → ℕ → Bool
+in_part Declarations k = declared_is k
+in_part Definitions k = not (declared_is k)
+in_part Assertions k = eqb k 26
 
-abbrev pub line_in : ℕ → List ℕ → List ℕ → ℕ → List ℕ
-line_in p w s i = cond (eqb p 0) (declaration w s i) (cond (eqb p 1) (definition w s i) (assertion w s i))
+abbrev pub line_in : Part → List ℕ → List ℕ → ℕ → List ℕ
+line_in Declarations w s i = declaration w s i
+line_in Definitions w s i = definition w s i
+line_in Assertions w s i = assertion w s i
 
 -- node i is marked
 abbrev pub on : List ℕ → ℕ → Bool
 on m i = eqb (get_or m i 0) 1
 
 -- the lines of one part for the marked nodes below n
-unfoldable pub part : ℕ → List ℕ → List ℕ → List ℕ → ℕ → List ℕ
+unfoldable pub part : Part → List ℕ → List ℕ → List ℕ → ℕ → List ℕ
 part p w s m zero = []
 part p w s m (suc n) = part p w s m n ++ cond (on m n && in_part p (kind_at w n)) (line_in p w s n) []
 
 -- the text of the marked nodes below n
 unfoldable pub text_by : List ℕ → List ℕ → ℕ → List ℕ
-text_by w m n = part 0 w (sorts w n) m n ++ (part 1 w (sorts w n) m n ++ part 2 w (sorts w n) m n)
+text_by w m n = part Declarations w (sorts w n) m n ++ (part Definitions w (sorts w n) m n ++ part Assertions w (sorts w n) m n)
 
 -- THE TEXT OF A ROOT: that of the nodes which it needs
 unfoldable pub text_of : List ℕ → ℕ → List ℕ

@@ -1,20 +1,26 @@
 -- What the functions inside promise.
 use Rattle.std.specs.Prelude.{◌≡◌, List, ◌++◌, ℕ, ◌≤◌, min, length, get_or, take}
+use Rattle.writing.specs.Bytes.{decimal}
 use Rattle.sorts.specs.Lists.{sorts}
 use Rattle.sorts.specs.Check.{check_of}
 use Rattle.sorts.specs.declared.Verdict.TheVariants.{Passed}
+use Rattle.smttext.specs.Names.{name_of, sort_text, format_text, rounding_text}
 use Rattle.smttext.specs.Text.{part}
-use Rattle.smtwriter.specs.declared.Written.{Written}
-use Rattle.smtwriter.specs.Written.{fitted, bytes_after}
+use Rattle.smttext.specs.declared.Part.TheVariants.{Declarations, Definitions, Assertions}
+use Rattle.smtwriter.specs.declared.formula.Hole.{Hole}
+use Rattle.smtwriter.specs.declared.formula.Hole.TheVariants.{Name, Sort, Format, Rounding, Decimal}
 
--- the three parts over the sorts s and the marks m of the nodes below n
-abbrev pub parts_of : List ℕ → List ℕ → List ℕ → ℕ → List ℕ
-parts_of w s m n = part 0 w s m n ++ (part 1 w s m n ++ part 2 w s m n)
+-- what stands in a hole of a template, over the list w
+abbrev pub hole_text : List ℕ → Hole → List ℕ
+hole_text w (Name i) = name_of w i
+hole_text w (Sort s) = sort_text s
+hole_text w (Format f) = format_text f
+hole_text w (Rounding r) = rounding_text r
+hole_text w (Decimal v) = decimal v
 
--- a text that was written where it fits
-pub record Fits (text : List ℕ) (a : Written) (old new : List ℕ) : Type 0 where
-  pub answer : a ≡ fitted text (length old)
-  pub bytes : new ≡ bytes_after a text old
+-- the three parts over the sorts s and the marks m of a list's first nodes
+abbrev pub parts_of : List ℕ → List ℕ → List ℕ → List ℕ
+parts_of w s m = part Declarations w s m (length m) ++ (part Definitions w s m (length m) ++ part Assertions w s m (length m))
 
 -- a table with an entry for each of n nodes, or 65,535 entries, which are enough for any list
 abbrev pub Enough : ℕ → List ℕ → Type 0

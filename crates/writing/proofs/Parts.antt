@@ -1,25 +1,17 @@
--- A byte, a digit and a bit more.
-use mathlib.Core.Path.{◌≡◌, refl, sym}
-use mathlib.Core.List.{List, [], ◌∷◌, ◌++◌}
-use Prim.Native.Nat.{ℕ, zero, suc, ◌+◌, ◌-◌, ◌/◌, ◌%◌, ◌^◌, ◌≤◌, ◌<◌, min}
+-- A digit and a bit more.
+use mathlib.Core.Path.{◌≡◌, refl, sym, ◌∙◌}
+use mathlib.Core.List.{List, [], ◌∷◌, ◌++◌, append_assoc}
+use Prim.Native.Nat.{ℕ, zero, suc, ◌+◌, ◌-◌, ◌/◌, ◌%◌, ◌^◌, ◌≤◌, ◌<◌}
 use native.Mathlib.Nat.{pow-suc, div-one, div-div-eq-div-mul}
-use native.Mathlib.Numerals.{add-one}
 use native.Mathlib.Omega.{arith}
 use borrow.Author.Tests.{lt-ltb, le-ltb}
-use lib.ListN.{length, take, get_or}
-use lib.Seq.{set_out, take-suc}
+use lib.ListN.{length, take, drop, set}
+use lib.Seq.{take_all}
+use Rattle.std.proofs.lemmas.List.{drop-set}
+use Rattle.std.proofs.Common.{length-drop, length-set}
 use Rattle.words.specs.declared.Wide.{Wide}
 use Rattle.words.specs.Wide.{wide_of}
-use Rattle.writing.specs.Bytes.{digits, bits}
-use Rattle.writing.specs.Put.{Put, largest}
-
--- a byte that has no place in the bytes
-pub beyond : (at : ℕ) (l : List ℕ) (b : ℕ) {r : ℕ} → length l ≤ at → length l < largest → r ≡ min (at + 1) largest → Put (b ∷ []) at r l l
-beyond at l b h k e = record { place = e; bytes = sym (set_out l at b h); room = k }
-
--- one byte more
-pub take_more : (l : List ℕ) (i : ℕ) → i < length l → take i l ++ (get_or l i 0 ∷ []) ≡ take (i + 1) l
-take_more l i h = rw (add-one, take-suc l i 0 h)
+use Rattle.writing.specs.Bytes.{digits, decimal, bits}
 
 -- a number of one digit, and of more
 pub few : (k v : ℕ) → (k ≡ 0 → ⊥) → v < 10 → (48 + v) ∷ [] ≡ digits k v
@@ -31,6 +23,38 @@ pub many : (k v : ℕ) → (k ≡ 0 → ⊥) → 10 ≤ v → digits (k - 1) (v 
 unfolding digits
 many zero v h l = absurd (h refl)
 many (suc k) v h l = let q : suc k - 1 ≡ k = omega arith in rw (le-ltb v 10 l, q)
+
+-- the last digit goes in front of those that stand in the array d from place k on
+module _ (d : List ℕ) (v k : ℕ) (h : k ≤ length d) (z : 0 < k) where
+  some : k ≡ 0 → ⊥
+  some e = absurd (omega arith)
+
+  behind : drop (k - 1) (set d (k - 1) (48 + v % 10)) ≡ (48 + v % 10) ∷ drop k d
+  behind = let q : k - 1 + 1 ≡ k = omega arith in drop-set d (k - 1) (48 + v % 10) (omega arith) ∙ rw q refl
+
+  pub digit_more : (v / 10 ≡ 0 → ⊥) → digits k v ++ drop k d ≡ digits (k - 1) (v / 10) ++ drop (k - 1) (set d (k - 1) (48 + v % 10))
+  digit_more n = rw (behind, ← many k v some (omega arith)) (append_assoc (digits (k - 1) (v / 10)) ((48 + v % 10) ∷ []) (drop k d))
+
+  digit-first : v / 10 ≡ 0 → digits k v ++ drop k d ≡ drop (k - 1) (set d (k - 1) (48 + v % 10))
+  digit-first n = let m : v % 10 ≡ v = omega arith in rw (behind, ← few k v some (omega arith), m) refl
+
+  -- .. and then all of them are there
+  pub written_digits : (n x : ℕ) → length d ≡ n → v / 10 ≡ 0 → decimal x ≡ digits k v ++ drop k d
+      → take (n - (k - 1)) (drop (k - 1) (set d (k - 1) (48 + v % 10))) ≡ decimal x
+  written_digits n x e q f =
+      let s = set d (k - 1) (48 + v % 10) in
+      take_all (n - (k - 1)) (drop (k - 1) s) (omega (arith, e, length-drop (k - 1) s, length-set d (k - 1) (48 + v % 10))) ∙ sym (f ∙ digit-first q)
+
+-- a number that is left has one digit less
+pub smaller : (k v : ℕ) → 0 < k → v < 10 ^ k → v / 10 < 10 ^ (k - 1)
+smaller zero v z h = absurd (omega arith)
+smaller (suc k) v z h = let q : suc k - 1 ≡ k = omega arith in rw q (omega (arith, pow-suc 10 k))
+
+-- .. and has one
+pub some-left : (k v : ℕ) → 0 < k → v < 10 ^ k → (v / 10 ≡ 0 → ⊥) → 0 < k - 1
+some-left zero v z h n = absurd (omega arith)
+some-left (suc zero) v z h n = absurd (n (omega arith))
+some-left (suc (suc k)) v z h n = omega arith
 
 -- the bits from bit i on are those from bit i + 1 on, and bit i
 bits-suc : (n i v : ℕ) → bits n (v / 2 ^ suc i) ++ ((48 + v / 2 ^ i % 2) ∷ []) ≡ bits (suc n) (v / 2 ^ i)

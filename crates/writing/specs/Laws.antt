@@ -4,7 +4,9 @@ use Rattle.std.proofs.Common.{sym, ap, ◌∙◌, ⊎_elim, add-zero, eq-zero-or
 use Rattle.std.proofs.lemmas.List.Edits.{sets}
 use Rattle.std.proofs.Math.Seq.{length-sets, set_out}
 use Rattle.writing.specs.Bytes.{digits}
-use Rattle.writing.specs.Put.{Put, largest}
+use Rattle.writing.specs.Put.{Put, Wrote, largest}
+use Rattle.writing.specs.Sink.{SinkLaws}
+use Rattle.writing.specs.declared.Writer.{Writer}
 
 -- bytes that are stored one run after the other
 sets-append : (l a b : List ℕ) (i : ℕ) → sets l i (a ++ b) ≡ sets (sets l i a) (i + length a) b
@@ -28,34 +30,30 @@ sets-min l i m a h =
 
 -- one part, and then another
 module _ {a b : List ℕ} {at p r : ℕ} {l l' l'' : List ℕ} where
-  pub then : Put a at p l l' → Put b p r l' l'' → Put (a ++ b) at r l l''
-  then x y =
+  both : Put a at p l l' → Put b p r l' l'' → Put (a ++ b) at r l l''
+  both x y =
       record {
         place = omega (arith, length-append a b);
         bytes = y.bytes ∙ rw (sets-append l a b at, ← x.bytes, x.place, sets-min l' (at + length a) largest b (omega arith));
         room = x.room;
       }
 
-module _ {a : List ℕ} {at r : ℕ} {l l' : List ℕ} where
-  -- no length changes
-  pub long : Put a at r l l' → length l' ≡ length l
-  long x = ap length x.bytes ∙ length-sets l at a
+-- no length changes
+long : {a : List ℕ} {at r : ℕ} {l l' : List ℕ} → Put a at r l l' → length l' ≡ length l
+long {a} {at} {l = l} x = ap length x.bytes ∙ length-sets l at a
 
-  -- the same text by another name
-  pub also : {b : List ℕ} → a ≡ b → Put a at r l l' → Put b at r l l'
-  also e x = rw (← e) x
+pub nothing : (s : Writer) → Wrote [] s s
+nothing s = record { put = λ w. record { place = omega arith; bytes = refl; room = w.1 }; same = refl }
 
--- what gives back its place has written no text
-pub nothing : {at : ℕ} {l : List ℕ} → at ≤ largest → length l < largest → Put [] at at l l
-nothing h k = record { place = omega arith; bytes = refl; room = k }
+pub then : {a b : List ℕ} {s t u : Writer} → Wrote a s t → Wrote b t u → Wrote (a ++ b) s u
+then x y = record { put = λ w. let p = x.put w in both p (y.put (omega (arith, p.place), omega (arith, long p, w.1))); same = y.same ∙ x.same }
 
--- the place behind a text that starts at 0: its length, or too large for any bytes
-module _ {text : List ℕ} {n : ℕ} {l m : List ℕ} (x : Put text 0 n l m) where
-  pub fits : {room : ℕ} → n ≤ room → room < largest → n ≡ length text
-  fits h k = omega arith
+-- the same text by another name
+pub also : {a b : List ℕ} {s t : Writer} → a ≡ b → Wrote a s t → Wrote b s t
+also e x = rw (← e) x
 
-  pub does_not : {room : ℕ} → room < n → room < length text
-  does_not h = omega arith
+pub writer_laws : SinkLaws Wrote
+writer_laws = record { nothing = nothing; then = then }
 
 either : (t : Bool) (a b : List ℕ) (n : ℕ) → length a ≤ n → length b ≤ n → length (cond t a b) ≤ n
 either true a b n h k = h

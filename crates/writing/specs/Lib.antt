@@ -1,3 +1,5 @@
 pub mod Put
+pub mod Fits
+pub mod Sink
 pub mod Bytes
 pub mod Laws

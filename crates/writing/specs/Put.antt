@@ -1,6 +1,7 @@
 -- What a function that writes text promises.
-use Rattle.std.specs.Prelude.{◌≡◌, List, ℕ, ◌+◌, ◌<◌, min, length}
+use Rattle.std.specs.Prelude.{◌≡◌, List, ℕ, ◌+◌, ◌<◌, ◌≤◌, min, length}
 use Rattle.std.proofs.lemmas.List.Edits.{sets}
+use Rattle.writing.specs.declared.Writer.{Writer}
 
 -- the largest place
 abbrev pub largest : ℕ
@@ -11,3 +12,12 @@ pub record Put (text : List ℕ) (at r : ℕ) (old new : List ℕ) : Type 0 wher
   pub place : r ≡ min (at + length text) largest
   pub bytes : new ≡ sets old at text
   pub room : length old < largest
+
+-- a place and a number of bytes are words: so are those of every writer
+abbrev pub InWords : Writer → Type 0
+InWords w = (w.at ≤ largest) × (length w.out.now < largest)
+
+-- from a writer's place on the text stands in its bytes, and it is over the same bytes as before
+pub record Wrote (text : List ℕ) (old new : Writer) : Type 0 where
+  pub put : InWords old → Put text old.at new.at old.out.now new.out.now
+  pub same : new.out.ghost_name ≡ old.out.ghost_name

@@ -80,10 +80,8 @@ fn lift(rt: &(impl Input + Print)) -> io::Result<()> {
     let mut from = rt.reader();
     let n = read_full(&mut from, &mut input)?;
     let run = listing::run(&input[0..n], &mut nodes, &mut statements);
-    match listing::list(&nodes, &statements, run, &mut out) {
-        Some(size) => rt.write_all(&out[..size]),
-        None => Ok(()),
-    }
+    let n = listing::list(&nodes, &statements, run, &mut out).unwrap_or(0);
+    rt.write_all(&out[..n])
 }
 
 // Puts the word behind the program's name at a buffer's start and gives its length, 0 where there is no such word or no room for it.

@@ -88,6 +88,27 @@ fn public(krate: &str, path: &str, text: &str) -> Vec<Call> {
     out
 }
 
+/// The functions of the public traits of one source text.
+fn in_traits(krate: &str, path: &str, text: &str) -> Vec<Call> {
+    let mut out = Vec::new();
+    for part in text.split("\npub trait ").skip(1) {
+        let name = part.split([' ', ':', '<']).next().expect("a name");
+        let body = part.split("\n}").next().expect("its end");
+        for start in ["\n    fn ", "\n    final fn "] {
+            for method in body.split(start).skip(1) {
+                let method = method.split(['(', '<']).next().expect("a name");
+                out.push(Call {
+                    krate: krate.to_owned(),
+                    name: method.to_owned(),
+                    contract: format!("{path}.{name}.{method}"),
+                    lent: Vec::new(),
+                });
+            }
+        }
+    }
+    out
+}
+
 /// The static library.
 const EXPORTS: &str = "export_c";
 
@@ -107,6 +128,11 @@ fn calls() -> Vec<Call> {
         }
         let text = read(&source.join("lib.rt"));
         out.extend(public(&krate, &format!("Rattle.{krate}.proofs"), &text));
+        out.extend(in_traits(
+            &krate,
+            &format!("Rattle.{krate}.specs.contracts"),
+            &text,
+        ));
         for line in text.lines() {
             if let Some(module) = line.strip_prefix("pub mod ") {
                 let module = module.trim_end_matches(';');
@@ -123,7 +149,8 @@ fn calls() -> Vec<Call> {
 }
 
 /// What the theorem must state of a call. `trim` gives a reference back, of
-/// which its bytes are determined.
+/// which its bytes are determined; a function on
+/// what takes text has its contract as a formula.
 fn expected(call: &Call) -> String {
     let Call {
         krate, contract, ..
@@ -132,6 +159,17 @@ fn expected(call: &Call) -> String {
     let key = format!("pub {krate}·{name}");
     match (krate.as_str(), name.as_str()) {
         ("texts", "trim") => format!("{key} : Fixes {contract}.Reads.Post (λ κ r x. r.now)"),
+        ("writing", "fitted") => format!(
+            "{key} : (T : _) (laws : _) (text : _) (dict : _) → Determined₁ ({contract}.Reads.Post T laws text dict) (λ κ x. x.1.0.now)"
+        ),
+        ("writing", _) | ("smttext", "name" | "format" | "sort") => {
+            let contract = contract.replace(".proofs.", ".specs.contracts.");
+            let given = if name == "write" { "T text" } else { "S sink" };
+            let bound: String = given.split(' ').map(|g| format!("({g} : _) ")).collect();
+            format!(
+                "{key}-says : {{M : Type 1}} {{𝓤 : Ura M}} (𝓛 : Logic 𝓤) {bound}(dict : _) (memory : _) (run : _) (κ : _) (a : _) (t : _) (e : _) → ({contract}.clauses {given} dict 𝓛 memory run κ a).ensures tt t e ≡ (connectives 𝓤).⌜◌⌝"
+            )
+        }
         _ => {
             let which = ["", "₁", "₂", "₃", "₄"][call.lent.len()];
             let slices: String = call
@@ -154,10 +192,14 @@ fn plain(text: &str) -> String {
 fn stated(theorem: &str, call: &Call) -> bool {
     let name = format!("{}·{}", call.krate, call.name.replace('_', "-"));
     let statement = expected(call);
-    let proof = [format!(" {name} κ "), " unfolding ".to_owned()];
-    theorem
-        .split_once(&statement)
-        .is_some_and(|(_, rest)| proof.iter().any(|start| rest.starts_with(start)))
+    let proof = [
+        format!(" {name} κ "),
+        format!(" {name} T "),
+        " unfolding ".to_owned(),
+    ];
+    theorem.split_once(&statement).is_some_and(|(_, rest)| {
+        statement.ends_with('⌝') || proof.iter().any(|start| rest.starts_with(start))
+    })
 }
 
 /// The calls of which the theorem does not state what it must.

@@ -4,4 +4,4 @@ use Rattle.listing.proofs.print.line.Goals as goal
 
 pub returns : goal.returns
 unfolding line
-returns c = then c.put-p.ensures (search then)
+returns c = then c.put.ensures (then c.numbers.ensures c.put-2.ensures)

@@ -1,12 +1,11 @@
-use Rattle.std.proofs.Common.{arith}
 use Rattle.listing.proofs.Writing.{numbers-take}
 use Rattle.listing.specs.Text.{numbers}
 use Rattle.writing.specs.Laws.{then, also, nothing}
 use Rattle.listing.proofs.print.numbers.Goals as goal
 
-pub loop-i-init : goal.loop-i-init
+pub loop-v-init : goal.loop-v-init
 unfolding numbers
-loop-i-init c = (omega arith, nothing (omega arith) (omega arith))
+loop-v-init c = nothing c.args.out.now
 
-pub loop-i-preserved : goal.loop-i-preserved
-loop-i-preserved c = let l = c.loop-i in (omega arith, also (numbers-take _ _ c.loop-i-test.true) (then l.invariant.1 (then c.put-q.ensures c.decimal-p.ensures)))
+pub loop-v-preserved : goal.loop-v-preserved
+loop-v-preserved c = also (numbers-take _ _ c.loop-v-test.true) (then c.loop-v.invariant c.number.ensures)

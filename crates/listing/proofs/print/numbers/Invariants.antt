@@ -1,10 +1,7 @@
-use Rattle.std.proofs.Common.{◌≤◌, ◌-◌, length, take}
+use Rattle.std.proofs.Common.{take}
 use Rattle.listing.specs.Text.{numbers}
-use Rattle.writing.specs.Put.{Put}
+use Rattle.writing.specs.Put.{Wrote}
 use Rattle.listing.proofs.print.numbers.Given as goal
 
-abbrev pub invariant-loop-i : goal.invariant-loop-i
-invariant-loop-i l = (l.i ≤ length l.values) × Put (numbers (take l.i l.values)) l.at l.p l.initial.out l.out
-
-abbrev pub decreases-loop-i : goal.decreases-loop-i
-decreases-loop-i l = length l.values - l.i
+abbrev pub invariant-loop-v : goal.invariant-loop-v
+invariant-loop-v l = Wrote (numbers (take l.v-index l.values)) l.initial.out l.out

@@ -1,4 +1,3 @@
-use Rattle.std.proofs.Common.{arith}
 use Rattle.listing.specs.Listing.{refusal_line}
 use Rattle.writing.specs.Laws.{nothing}
 use Rattle.listing.proofs.print.refusal_line.Goals as goal
@@ -9,4 +8,4 @@ returns-in-Some c = rw c.in-Some.is c.line.ensures
 
 pub returns-in-None : goal.returns-in-None
 unfolding refusal_line
-returns-in-None c = rw c.in-None.is (nothing (omega arith) (omega arith))
+returns-in-None c = rw c.in-None.is (nothing c.args.out.now)

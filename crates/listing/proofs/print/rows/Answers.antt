@@ -1,4 +1,3 @@
-use Rattle.std.proofs.Common.{arith}
 use Rattle.listing.proofs.Writing.{row_on}
 use Rattle.listing.specs.Text.{rows}
 use Rattle.writing.specs.Laws.{nothing}
@@ -6,9 +5,8 @@ use Rattle.listing.proofs.print.rows.Goals as goal
 
 pub loop-i-init : goal.loop-i-init
 unfolding rows
-loop-i-init c = (omega arith, nothing (omega arith) (omega arith))
+loop-i-init c = nothing c.args.out.now
 
 pub loop-i-preserved : goal.loop-i-preserved
 loop-i-preserved c =
-    let l = c.loop-i in
-    (omega arith, row_on _ _ _ _ _ _ _ _ _ c.word.ensures c.word-in-loop-i.ensures c.word-in-loop-i-2.ensures c.word-in-loop-i-3.ensures l.invariant.1 c.line-p.ensures)
+    row_on _ _ _ _ _ _ _ c.word.ensures c.word-in-loop-i.ensures c.word-in-loop-i-2.ensures c.word-in-loop-i-3.ensures c.loop-i.invariant c.line.ensures

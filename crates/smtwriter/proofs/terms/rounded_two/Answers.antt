@@ -1,7 +1,0 @@
-use Rattle.writing.specs.Bytes.{bytes}
-use Rattle.writing.specs.Laws.{then}
-use Rattle.smtwriter.proofs.terms.rounded_two.Goals as goal
-
-pub returns : goal.returns
-unfolding bytes
-returns c = then c.all-p.ensures (then c.rounding-q.ensures c.two.ensures)
