@@ -6,6 +6,6 @@ pub returns-in-Some : goal.returns-in-Some
 unfolding refusal_line
 returns-in-Some c = rw c.in-Some.is c.line.ensures
 
-pub returns-in-None : goal.returns-in-None
+pub returns-in_default : goal.returns-in_default
 unfolding refusal_line
-returns-in-None c = rw c.in-None.is (nothing c.args.out.now)
+returns-in_default c = rw c.in_default.is (nothing c.args.out.now)
