@@ -2,7 +2,7 @@
 -- Every exported call that is lent words to tell goes by one rule (`Tells` in export/specs/Answers). Beside an answer other than 0 these words are 0,
 -- but a place that is named and beside a decline its detail, for whatever bytes, records and lists the call is given; a call of lift on a record that was lifted,
 -- declined or not, tells the next place and 1
-use Rattle.std.specs.Prelude.{◌≡◌, refl, Bool, true, false, cond, ◌&&◌, List, [], ◌∷◌, ℕ, eqb, leb, take, replicate}
+use Rattle.std.specs.Prelude.{◌≡◌, refl, Bool, true, false, cond, ◌&&◌, List, [], ◌∷◌, ℕ, eqb, leb, take, replicate, Result, Ok, Err}
 use Rattle.std.proofs.Common.{arith}
 use Rattle.texts.specs.Bytes.{all}
 use Rattle.forms.specs.Classify.{classify_of}
@@ -16,15 +16,16 @@ use Rattle.records.specs.declared.Taken.{Taken}
 use Rattle.records.specs.declared.Outcome.{Outcome}
 use Rattle.records.specs.declared.Outcome.TheVariants.{Record, End, Refused}
 use Rattle.image.specs.Answers.{read_of}
-use Rattle.image.specs.declared.Found.{Found}
-use Rattle.image.specs.declared.Found.TheVariants.{Pattern, TooWide, Short}
+use Rattle.words.specs.declared.Wide.{Wide}
+use Rattle.image.specs.declared.ImageError.{ImageError}
+use Rattle.image.specs.declared.ImageError.TheVariants.{TooWide, Short}
 use Rattle.export.specs.Flat.{insn_of, at_least}
 use Rattle.export.specs.Answers.{Said, too_short, classified, reasoned, affected, read_into}
 use Rattle.details.specs.Why.{detail_of}
 use Rattle.lifter.specs.Lift.{lift_of}
 use Rattle.export.specs.Lifts.{Lifted, small_is, state_in, done, lifted_in, lifted_of, unchanged}
 use Rattle.export.specs.Steps.{Stepped, called_of, told_of, step_of, stepped_of}
-use Rattle.export.specs.Values.{wide, found_said}
+use Rattle.export.specs.Values.{wide, image_said}
 use Rattle.smtwriter.specs.Written.{written_of}
 use Rattle.smtwriter.specs.declared.Written.{Written}
 use Rattle.smtwriter.specs.declared.Written.TheVariants as written_as
@@ -127,13 +128,13 @@ step-beside t at s n m = way (at_least 13 s) t.outcome
     way false o e = record { place = 0; told = refl }
 
 -- THE IMAGE
-pub image-beside : (image : List ℕ) (low high : ℕ) → Zeros 2 (found_said (read_of image (wide low high)))
+pub image-beside : (image : List ℕ) (low high : ℕ) → Zeros 2 (image_said (read_of image (wide low high)))
 image-beside image low high = way (read_of image (wide low high))
   where
-    way : (f : Found) → Zeros 2 (found_said f)
-    way (Pattern p) h = absurd (h refl)
-    way TooWide h = refl
-    way Short h = refl
+    way : (r : Result Wide ImageError) → Zeros 2 (image_said r)
+    way (Ok p) h = absurd (h refl)
+    way (Err TooWide) h = refl
+    way (Err Short) h = refl
 
 -- A ROOT'S TEXT: a count of bytes stands beside 0, a node beside 8
 pub text-beside : (w : List ℕ) (n root room : ℕ) → let x = written_said (written_of w n root room) in leb x.number 8 ≡ false → x.words ≡ 0 ∷ []

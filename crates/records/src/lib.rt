@@ -159,7 +159,7 @@ fn two(s: &[u8], from: Next) -> NumberRead
     if at < s.len() {
         if at + 1 < s.len() {
             return NumberRead {
-                value: words::bytes::two(s, at),
+                value: words::bytes::le::<2>(s, at),
                 next: Next::At(at + 2),
             };
         }

@@ -38,7 +38,7 @@ fn wide(b: u8) -> u64
 fn two(s: &[u8], at: usize) -> usize
     ensures { result < 65536 }
 {
-    words::bytes::two(s, at) as usize
+    words::bytes::le::<2>(s, at) as usize
 }
 
 // The words that bytes make, eight for each, as many as there are of both.
@@ -48,7 +48,7 @@ fn load(w: &mut [u64], s: &[u8]) {
         if s.len() / 8 <= i {
             return;
         }
-        w[i] = words::bytes::eight(s, 8 * i);
+        w[i] = words::bytes::le::<8>(s, 8 * i);
         i += 1;
     }
 }
@@ -171,7 +171,7 @@ fn state_before(head: &[u8]) -> [u64; 13]
     let mut w = [0u64; 13];
     let mut i = 0;
     while i < 13 {
-        w[i] = words::bytes::four(head, 4 * i);
+        w[i] = words::bytes::le::<4>(head, 4 * i);
         i += 1;
     }
     w
@@ -182,8 +182,8 @@ fn lists_equal(head: &[u8], tail: &[u8], nodes: &[u64; 4096], statements: &[u64;
     requires { length head.now ≡ 289 }
 {
     let split = 32 * wide(head[286]) as usize;
-    let first = 4 * words::bytes::four(head, 36) as usize;
-    let second = 4 * words::bytes::four(head, 40) as usize;
+    let first = 4 * words::bytes::le::<4>(head, 36) as usize;
+    let second = 4 * words::bytes::le::<4>(head, 40) as usize;
     if tail.len() < split {
         return false;
     }
@@ -302,8 +302,8 @@ fn image_equal(head: &[u8]) -> bool
     let mut image = [0u8; 10];
     let answer = export::values::x87_image_read(
         &head[0..10],
-        words::bytes::eight(head, 10),
-        words::bytes::eight(head, 18),
+        words::bytes::le::<8>(head, 10),
+        words::bytes::le::<8>(head, 18),
         &mut out,
     );
     export::values::x87_image_write(&mut image, out[0], out[1]);

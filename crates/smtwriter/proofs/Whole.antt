@@ -12,8 +12,9 @@ use lib.Seq.{take-take}
 use Rattle.lists.specs.Rows.{room_of}
 use Rattle.sorts.specs.Lists.{sorts}
 use Rattle.sorts.specs.Laws.{take-sorts, passed-room}
-use Rattle.sorts.specs.declared.Verdict.{Verdict}
-use Rattle.sorts.specs.declared.Verdict.TheVariants as verdict
+use Rattle.std.specs.Prelude.{Result, Ok, Err}
+use Rattle.sorts.specs.declared.CheckError.{CheckError}
+use Rattle.sorts.specs.declared.CheckError.TheVariants as check
 use Rattle.evaluator.specs.Table.{Tables}
 use Rattle.evaluator.specs.Laws.{table-checked, table-sorted}
 use Rattle.needs.specs.Needed.{marks, marked_from}
@@ -75,15 +76,15 @@ module _ (w : List ℕ) (n : ℕ) (t : List ℕ) (x : Sorted w n t) where
   no-root r old h = record { answer = rw (x.passed, le-ltb r n h); bytes = refl }
 
 -- what the table of a list says, where it has enough entries
-module _ {w t₀ t : List ℕ} {n : ℕ} {v : Verdict} (enough : Enough n t₀) (x : Tables w n v t₀ t) where
-  pub sorted : v ≡ verdict.Passed → Sorted w n t
+module _ {w t₀ t : List ℕ} {n : ℕ} {v : Result Unit CheckError} (enough : Enough n t₀) (x : Tables w n v t₀ t) where
+  pub sorted : v ≡ Ok tt → Sorted w n t
   sorted e = record { passed = sym (table-checked enough x) ∙ e; table = table-sorted enough x e }
 
-  pub no_room : (r : ℕ) (old : List ℕ) → v ≡ verdict.Room → Writes w n r Room old old
+  pub no_room : (r : ℕ) (old : List ℕ) → v ≡ Err check.Room → Writes w n r Room old old
   unfolding written_of
   no_room r old e = record { answer = rw (← table-checked enough x, e); bytes = refl }
 
-  pub faulty : (r i : ℕ) (old : List ℕ) → v ≡ verdict.Fault i → Writes w n r (Fault i) old old
+  pub faulty : (r i : ℕ) (old : List ℕ) → v ≡ Err (check.Fault i) → Writes w n r (Fault i) old old
   unfolding written_of
   faulty r i old e = record { answer = rw (← table-checked enough x, e); bytes = refl }
 

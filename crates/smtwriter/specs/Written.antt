@@ -1,9 +1,9 @@
 -- What writing a root's text says, what it leaves, and the numbers of the manual, section 7.
-use Rattle.std.specs.Prelude.{◌≡◌, cond, List, ℕ, leb, ltb, length}
+use Rattle.std.specs.Prelude.{◌≡◌, cond, List, ℕ, leb, ltb, length, Result, Ok, Err}
 use Rattle.std.proofs.lemmas.List.Edits.{sets}
 use Rattle.sorts.specs.Check.{check_of}
-use Rattle.sorts.specs.declared.Verdict.{Verdict}
-use Rattle.sorts.specs.declared.Verdict.TheVariants as verdict
+use Rattle.sorts.specs.declared.CheckError.{CheckError}
+use Rattle.sorts.specs.declared.CheckError.TheVariants as check
 use Rattle.smttext.specs.Text.{text_of}
 use Rattle.smtwriter.specs.declared.Written.{Written}
 use Rattle.smtwriter.specs.declared.Written.TheVariants.{Bytes, Fault, Room, NoRoot, Short}
@@ -13,10 +13,10 @@ abbrev pub fitted : List ℕ → ℕ → Written
 fitted text room = cond (leb (length text) room) (Bytes (length text)) Short
 
 -- what the check says, and what follows where it passes
-abbrev pub after : Verdict → Written → Written
-after verdict.Passed o = o
-after (verdict.Fault i) o = Fault i
-after verdict.Room o = Room
+abbrev pub after : Result Unit CheckError → Written → Written
+after (Ok u) o = o
+after (Err (check.Fault i)) o = Fault i
+after (Err check.Room) o = Room
 
 -- root r of the first n nodes, into so many bytes: 10, then 8, 31, 32
 unfoldable pub written_of : List ℕ → ℕ → ℕ → ℕ → Written

@@ -10,7 +10,7 @@ ghost use Rattle.smttext.specs.Text.{declaration, definition, assertion, in_part
 ghost use Rattle.smtwriter.specs.Inside.{parts_of, Fits, Enough, Sorted, Clear};
 ghost use Rattle.smtwriter.specs.Written.{Writes};
 
-use sorts::Verdict;
+use sorts::CheckError;
 
 // What writing a root's text says.
 #[derive(Clone, Copy)]
@@ -207,11 +207,10 @@ fn written_in(
     requires { Enough count t.old × Clear count m.old }
     ensures { Writes nodes.now count root result out.old out.new }
 {
-    let v = evaluator::table::fill(nodes, count, t);
-    match v {
-        Verdict::Passed => rooted(nodes, count, root, &*t, m, out),
-        Verdict::Fault(i) => Written::Fault(i),
-        Verdict::Room => Written::Room,
+    match evaluator::table::fill(nodes, count, t) {
+        Ok(()) => rooted(nodes, count, root, &*t, m, out),
+        Err(CheckError::Fault(i)) => Written::Fault(i),
+        Err(CheckError::Room) => Written::Room,
     }
 }
 

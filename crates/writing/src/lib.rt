@@ -64,8 +64,8 @@ pub fn binary(out: &mut [u8], at: usize, x: Wide, n: usize) -> usize
     let mut i = n;
     while 0 < i {
         i -= 1;
-        let rest = words::shr(x, i as u64);
-        p = put(out, p, 48 + (words::low_word(rest) % 2) as u8);
+        let rest = x >> i as u64;
+        p = put(out, p, 48 + (rest.lo % 2) as u8);
     }
     p
 }

@@ -1,4 +1,4 @@
-use Rattle.std.proofs.Common.{arith}
+use Rattle.std.proofs.Common.{refl, arith}
 use Rattle.writing.proofs.Parts.{bits-more, bits_none}
 use Rattle.writing.specs.Laws.{then, also, nothing}
 use Rattle.writing.proofs.binary.Goals as goal
@@ -9,4 +9,4 @@ loop-i-init c = (omega arith, also (bits_none _ _) (nothing (omega arith) (omega
 pub loop-i-preserved : goal.loop-i-preserved
 loop-i-preserved c =
     let l = c.loop-i in
-    (omega arith, also (bits-more _ _ _ l.invariant.0 c.loop-i-test.true _ _ c.shr-rest.ensures c.low_word.ensures) (then l.invariant.1 c.put-p.ensures))
+    (omega arith, also (bits-more _ _ _ l.invariant.0 c.loop-i-test.true _ _ c.shr-rest.ensures refl) (then l.invariant.1 c.put-p.ensures))
