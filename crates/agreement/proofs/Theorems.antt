@@ -1,7 +1,7 @@
 -- THE THEOREMS, each with its words, its statement, and where it is proved. A run is any list of instructions, lifted one after the other
 -- from the fresh state over any two lists, refused calls among them; `begun` is its start, `called` one call more, `ran` any number (Runs).
 -- That these are what the contracts of the calls claim is said in Cited
-use Rattle.std.specs.Prelude.{◌≡◌, Bool, true, false, Option, Some, List, [], ◌∷◌, ◌++◌, ℕ, suc, ◌*◌, ◌/◌, ◌^◌, ◌≤◌, ◌<◌, leb, length, get_or, take, drop, replicate}
+use Rattle.std.specs.Prelude.{◌≡◌, Bool, true, false, Option, Some, Ok, List, [], ◌∷◌, ◌++◌, ℕ, suc, ◌*◌, ◌/◌, ◌^◌, ◌≤◌, ◌<◌, leb, length, get_or, take, drop, replicate}
 use Rattle.lists.specs.Rows.{row, wrote, room_of}
 use Rattle.forms.specs.declared.Instruction.{Instruction}
 use Rattle.forms.specs.declared.Form.TheVariants.{PushMemory, StoreMemory}
@@ -50,7 +50,6 @@ use Rattle.agreement.specs.Texts.{Means, means, read_back}
 use Rattle.agreement.specs.Declines.{Because, declines-so, declines-only}
 use Rattle.agreement.proofs.Declines.Said.{says}
 use Rattle.sorts.specs.Check.{check_of}
-use Rattle.sorts.specs.declared.Verdict.TheVariants.{Passed}
 use Rattle.needs.specs.Needed.{Needed, marks}
 use Rattle.needs.specs.Laws.{On, marks-needed}
 use Rattle.smttext.specs.Text as Text
@@ -165,7 +164,7 @@ pub theorem-15-said : (h : Held) (i : Instruction) → answered h i ≡ 1
 theorem-15-said = says
 
 -- 16 WHAT IS WRITTEN SAYS WHAT THE ROOT NEEDS: the text of a root of a list that passes is a text of the subset, said by the list and the marks of what the root needs
-pub theorem-16 : (w : List ℕ) (n r : ℕ) → check_of w n ≡ Passed → r < n → ((j : ℕ) → get_or w j 0 < 2 ^ 64) → Says (Text.text_of w r) w (marks w r) (suc r)
+pub theorem-16 : (w : List ℕ) (n r : ℕ) → check_of w n ≡ Ok tt → r < n → ((j : ℕ) → get_or w j 0 < 2 ^ 64) → Says (Text.text_of w r) w (marks w r) (suc r)
 theorem-16 = written
 
 pub theorem-16-needs : (w : List ℕ) (r i : ℕ) → (On (marks w r) i → Needed w r i) × (Needed w r i → On (marks w r) i)
@@ -196,7 +195,7 @@ pub theorem-20 : (x nodes out : List ℕ) (r : ℕ) (nodes_left out_left : List 
     → Means x nodes r (get_or out_left 0 0) nodes_left
 theorem-20 = means
 
-pub theorem-20-back : (w : List ℕ) (n root : ℕ) → check_of w n ≡ Passed → root < n → ((j : ℕ) → get_or w j 0 < 2 ^ 64)
+pub theorem-20-back : (w : List ℕ) (n root : ℕ) → check_of w n ≡ Ok tt → root < n → ((j : ℕ) → get_or w j 0 < 2 ^ 64)
     → (nodes out : List ℕ) (r : ℕ) (nodes_left out_left : List ℕ) → 1 ≤ length out → rank (marks w root) (suc root) ≤ room_of (length nodes)
     → ReadsText (Text.text_of w root) nodes out r nodes_left out_left
     → (r ≡ 0) × (get_or out_left 0 0 ≡ rank (marks w root) (suc root))

@@ -1,6 +1,6 @@
 -- THEOREM 4: THE EXAMPLES FROM THE BENCH HOLD.
 -- P1 to P12 of the manual, section 10, are one table, and `bench` is the one statement that all of it holds. A row is as a listing has it: number, kind, a, b, c
-use Rattle.std.specs.Prelude.{◌≡◌, true, false, List, [], ◌∷◌, ℕ, ◌+◌, ◌*◌, ◌^◌, ◌<◌, length, replicate, get_or, take, ltb}
+use Rattle.std.specs.Prelude.{◌≡◌, true, false, List, [], ◌∷◌, ℕ, ◌+◌, ◌*◌, ◌^◌, ◌<◌, length, replicate, get_or, take, ltb, Ok}
 use Rattle.std.proofs.Math.Path.{refl}
 use Rattle.std.proofs.Common.{arith, lt-ltb, ltb-true}
 use Rattle.texts.specs.Bytes as texts
@@ -33,7 +33,6 @@ use Rattle.words.specs.declared.Wide.{Wide}
 use Rattle.words.specs.Bytes.{little_endian, bytes_of}
 use Rattle.image.specs.Layout.{image_of, has_number, pattern_in}
 use Rattle.image.specs.Answers.{read_of, image_after}
-use Rattle.image.specs.declared.Found.TheVariants.{Pattern}
 use Rattle.evaluator.specs.Lists.{vals}
 use Rattle.sorts.specs.Sorts.{sort_row}
 use Rattle.sorts.specs.Lists.{row_sort, sorts}
@@ -91,7 +90,7 @@ Holds (nodes i rows) = (lifted [] i).ns ≡ rows
 Holds (statements before i rows) = (lifted before i).ss ≡ rows
 Holds (clear i node k) = (given : List ℕ) → extract_of (get_or (vals (wrote (replicate 256 0) (lifted [] i).ns) given (node + 1)) node 0) k k ≡ 0
 Holds (writes low high bytes) = image_after (replicate 10 255) (record { lo = low; hi = high }) ≡ bytes
-Holds (free bytes) = (p : Wide) → p.lo < 2 ^ 64 → val p < 2 ^ 79 → read_of bytes p ≡ Pattern p
+Holds (free bytes) = (p : Wide) → p.lo < 2 ^ 64 → val p < 2 ^ 79 → read_of bytes p ≡ Ok p
 
 -- Every row holds
 infixr 20 ◌&◌

@@ -15,15 +15,16 @@ use Rattle.forms.specs.declared.Affected.TheVariants as affected-as
 use Rattle.forms.specs.declared.Instruction.{Instruction}
 use Rattle.records.specs.Reading as records
 use Rattle.image.specs.Answers.{read_of}
-use Rattle.image.specs.declared.Found.{Found}
-use Rattle.image.specs.declared.Found.TheVariants.{Pattern, TooWide, Short}
+use Rattle.words.specs.declared.Wide.{Wide}
+use Rattle.image.specs.declared.ImageError.{ImageError}
+use Rattle.image.specs.declared.ImageError.TheVariants.{TooWide, Short}
 use Rattle.export.specs.Flat.{insn_of, at_least}
 use Rattle.export.specs.Answers.{Said, too_short, classified, reasoned, affected, read_into}
 use Rattle.details.specs.Why.{detail_of}
 use Rattle.lifter.specs.Lift.{lift_of}
 use Rattle.export.specs.Lifts.{Lifted, small_is, state_in, done, lifted_in, lifted_of, unchanged}
 use Rattle.export.specs.Steps.{Stepped, called_of, told_of, step_of, stepped_of}
-use Rattle.export.specs.Values.{wide, found_said}
+use Rattle.export.specs.Values.{wide, image_said}
 use Rattle.smtwriter.specs.Written.{written_of}
 use Rattle.smtwriter.specs.declared.WriteError.{WriteError}
 use Rattle.smtwriter.specs.declared.WriteError.TheVariants as write_error
@@ -126,13 +127,13 @@ step-beside t at s n m = way (at_least 13 s) t
     way false t e = record { place = 0; told = refl }
 
 -- THE IMAGE
-pub image-beside : (image : List ℕ) (low high : ℕ) → Zeros 2 (found_said (read_of image (wide low high)))
+pub image-beside : (image : List ℕ) (low high : ℕ) → Zeros 2 (image_said (read_of image (wide low high)))
 image-beside image low high = way (read_of image (wide low high))
   where
-    way : (f : Found) → Zeros 2 (found_said f)
-    way (Pattern p) h = absurd (h refl)
-    way TooWide h = refl
-    way Short h = refl
+    way : (r : Result Wide ImageError) → Zeros 2 (image_said r)
+    way (Ok p) h = absurd (h refl)
+    way (Err TooWide) h = refl
+    way (Err Short) h = refl
 
 -- A ROOT'S TEXT: a count of bytes stands beside 0, a node beside 8
 pub text-beside : (w : List ℕ) (n root room : ℕ) → let x = written_said (written_of w n root room) in leb x.number 8 ≡ false → x.words ≡ 0 ∷ []

@@ -27,10 +27,10 @@ use Rattle.writing.specs.declared.Writer.{Writer}
 use Rattle.words.specs.Wide.{val}
 use Rattle.listing.specs.Run.{Ran, Runs}
 use Rattle.listing.specs.declared.Stop.{Stop}
-use Rattle.sorts.specs.declared.Verdict.{Verdict}
+use Rattle.sorts.specs.declared.CheckError.{CheckError}
 use Rattle.evaluator.specs.Table.{table_after, Tables}
 use Rattle.evaluator.specs.Outcome.{column_after}
-use Rattle.evaluator.specs.declared.Outcome.{Outcome}
+use Rattle.evaluator.specs.declared.EvalError.{EvalError}
 use Rattle.smttext.specs.Names.{name_from, format_text, sort_text}
 use Rattle.smttext.specs.Text.{text_of}
 use Rattle.smtwriter.specs.Written.{bytes_after, Writes}
@@ -171,8 +171,8 @@ module _ {r s : ℕ} where
           let k = q.short e in
           (h.0 ∙ sym k.0, h.1 ∙ sym k.1, h.2 ∙ sym k.2)
 
-tables : {w : List ℕ} {n : ℕ} {r s : Verdict} {old l m : List ℕ} → Tables w n r old l → Tables w n s old m → (r ≡ s) × (l ≡ m)
-tables {w} {n} {old = old} p q = follows (λ (v : Verdict). table_after v w n old) (p.verdict, p.table) (q.verdict, q.table)
+tables : {w : List ℕ} {n : ℕ} {r s : Result Unit CheckError} {old l m : List ℕ} → Tables w n r old l → Tables w n s old m → (r ≡ s) × (l ≡ m)
+tables {w} {n} {old = old} p q = follows (λ (v : Result Unit CheckError). table_after v w n old) (p.verdict, p.table) (q.verdict, q.table)
 
 written : {w : List ℕ} {n root : ℕ} {r s : Result ℕ WriteError} {old l m : List ℕ} → Writes w n root r old l → Writes w n root s old m → (r ≡ s) × (l ≡ m)
 written {w} {root = root} {old = old} p q = follows (λ (a : Result ℕ WriteError). bytes_after a (text_of w root) old) (p.answer, p.bytes) (q.answer, q.bytes)
@@ -226,50 +226,20 @@ texts·valid κ a r s x y = one
 
 -- words
 
-pub words·low-word : Determined Rattle.words.proofs.low_word.Reads.Post
-words·low-word κ a r s x y = one
-
-pub words·and : Determined Rattle.words.proofs.and.Reads.Post
-words·and κ a r s x y = one
-
-pub words·or : Determined Rattle.words.proofs.or.Reads.Post
-words·or κ a r s x y = one
-
-pub words·xor : Determined Rattle.words.proofs.xor.Reads.Post
-words·xor κ a r s x y = one
-
-pub words·shr : Determined Rattle.words.proofs.shr.Reads.Post
-words·shr κ a r s x y = one
-
-pub words·shl : Determined Rattle.words.proofs.shl.Reads.Post
-words·shl κ a r s x y = one
-
-pub words·low : Determined Rattle.words.proofs.low.Reads.Post
+pub words·low : Determined Rattle.words.proofs.Wide.low.Reads.Post
 words·low κ a r s x y = one
 
-pub words·extract : Determined Rattle.words.proofs.extract.Reads.Post
+pub words·extract : Determined Rattle.words.proofs.Wide.extract.Reads.Post
 words·extract κ a r s x y = one
 
-pub words·concat : Determined Rattle.words.proofs.concat.Reads.Post
+pub words·concat : Determined Rattle.words.proofs.Wide.concat.Reads.Post
 words·concat κ a r s x y = one
 
-pub words·lt : Determined Rattle.words.proofs.lt.Reads.Post
-words·lt κ a r s x y = one
-
-pub words·eq : Determined Rattle.words.proofs.eq.Reads.Post
-words·eq κ a r s x y = one
-
-pub words·fits : Determined Rattle.words.proofs.fits.Reads.Post
+pub words·fits : Determined Rattle.words.proofs.Wide.fits.Reads.Post
 words·fits κ a r s x y = one
 
-pub words·two : Determined Rattle.words.proofs.bytes.two.Reads.Post
-words·two κ a r s x y = within
-
-pub words·four : Determined Rattle.words.proofs.bytes.four.Reads.Post
-words·four κ a r s x y = within
-
-pub words·eight : Determined Rattle.words.proofs.bytes.eight.Reads.Post
-words·eight κ a r s x y = one
+pub words·le : (N : _) (n : _) → Determined (Rattle.words.proofs.bytes.le.Reads.Post N n)
+words·le N n κ a r s x y = within
 
 -- forms
 
@@ -589,7 +559,7 @@ pub evaluator·check : Determined Rattle.evaluator.proofs.check.Reads.Post
 evaluator·check κ a r s x y = one
 
 pub evaluator·evaluate : Determined₁ Rattle.evaluator.proofs.evaluate.Reads.Post (λ κ x. x.1.1.1.0.now)
-evaluator·evaluate κ a r s x y = follows (λ (o : Outcome). column_after o a.0.now a.1.0 a.1.1.0.now a.1.1.1.0.now)
+evaluator·evaluate κ a r s x y = follows (λ (o : Result Unit EvalError). column_after o a.0.now a.1.0 a.1.1.0.now a.1.1.1.0.now)
 
 pub evaluator·fill : Determined₁ Rattle.evaluator.proofs.table.fill.Reads.Post (λ κ x. x.1.1.0.now)
 evaluator·fill κ a r s x y = tables
@@ -646,23 +616,11 @@ answers·effect-number κ a r s x y = one
 pub answers·effect-fields : Determined Rattle.answers.proofs.effect_fields.Reads.Post
 answers·effect-fields κ a r s x y = one
 
-pub answers·found-number : Determined Rattle.answers.proofs.values.found_number.Reads.Post
-answers·found-number κ a r s x y = one
+pub answers·number-of : (T : _) (E : _) (t : _) (e : _) (says : _) (code : _) → Determined (Rattle.answers.proofs.refusal.number_of.Reads.Post T E t e says code)
+answers·number-of T E t e says code κ a r s x y = one
 
-pub answers·written-number : Determined Rattle.answers.proofs.values.written_number.Reads.Post
-answers·written-number κ a r s x y = one
-
-pub answers·verdict-number : Determined Rattle.answers.proofs.values.verdict_number.Reads.Post
-answers·verdict-number κ a r s x y = one
-
-pub answers·verdict-node : Determined Rattle.answers.proofs.values.verdict_node.Reads.Post
-answers·verdict-node κ a r s x y = one
-
-pub answers·evaluated-number : Determined Rattle.answers.proofs.values.evaluated_number.Reads.Post
-answers·evaluated-number κ a r s x y = one
-
-pub answers·evaluated-node : Determined Rattle.answers.proofs.values.evaluated_node.Reads.Post
-answers·evaluated-node κ a r s x y = one
+pub answers·place-of : (T : _) (E : _) (t : _) (e : _) (says : _) (code : _) → Determined (Rattle.answers.proofs.refusal.place_of.Reads.Post T E t e says code)
+answers·place-of T E t e says code κ a r s x y = one
 
 pub answers·text-number : Determined Rattle.answers.proofs.smt.text_number.Reads.Post
 answers·text-number κ a r s x y = one

@@ -1,9 +1,8 @@
 -- WHAT READING A TEXT MEANS: the call's promise in the words of the subset, in the place of the grammar's runs.
-use Rattle.std.specs.Prelude.{◌≡◌, refl, List, [], ◌∷◌, ◌++◌, ℕ, suc, ◌*◌, ◌^◌, ◌≤◌, ◌<◌, length, get_or, drop}
+use Rattle.std.specs.Prelude.{◌≡◌, refl, List, [], ◌∷◌, ◌++◌, ℕ, suc, ◌*◌, ◌^◌, ◌≤◌, ◌<◌, length, get_or, drop, Ok}
 use Rattle.std.proofs.Common.{sym, ap, ◌∙◌, arith, le-leb, get_or-set_same}
 use Rattle.lists.specs.Rows.{room_of}
 use Rattle.sorts.specs.Check.{check_of}
-use Rattle.sorts.specs.declared.Verdict.TheVariants.{Passed}
 use Rattle.needs.specs.Needed.{marks}
 use Rattle.smttext.specs.Text.{text_of}
 use Rattle.smttext.specs.Subset.{Says, InSubset, rank, compact}
@@ -25,7 +24,7 @@ pub record Formula (x nodes : List ℕ) (k : ℕ) (nodes_left : List ℕ) : Type
   pub said : InSubset x
   pub count : (w m : List ℕ) (n : ℕ) → Says x w m n → k ≡ rank m n
   pub rows : (w m : List ℕ) (n : ℕ) → Says x w m n → nodes_left ≡ compact w m n ++ drop (4 * k) nodes
-  pub passes : check_of nodes_left k ≡ Passed
+  pub passes : check_of nodes_left k ≡ Ok tt
 
 -- what is told beside each number: the count of nodes beside 0, the place beside 41, nothing beside 6
 pub data Means (x nodes : List ℕ) : ℕ → ℕ → List ℕ → Type 0 where
@@ -87,7 +86,7 @@ means x nodes out r nodes_left out_left h f =
     rw (n, t, told-first out (place_of a.says) h) (way x nodes nodes_left a.says a.read)
 
 -- WRITTEN AND READ BACK: the text of a root of a list that passes is read as what the root needs
-pub read_back : (w : List ℕ) (n root : ℕ) → check_of w n ≡ Passed → root < n → ((j : ℕ) → get_or w j 0 < 2 ^ 64)
+pub read_back : (w : List ℕ) (n root : ℕ) → check_of w n ≡ Ok tt → root < n → ((j : ℕ) → get_or w j 0 < 2 ^ 64)
     → (nodes out : List ℕ) (r : ℕ) (nodes_left out_left : List ℕ) → 1 ≤ length out → rank (marks w root) (suc root) ≤ room_of (length nodes)
     → ReadsText (text_of w root) nodes out r nodes_left out_left
     → (r ≡ 0) × (get_or out_left 0 0 ≡ rank (marks w root) (suc root))

@@ -1,8 +1,9 @@
 // The numbers of answers and forms, as the definitions of the crates below give them: what goes outside goes through these.
 #![tactic(auto)]
 
+pub mod refusal;
 pub mod smt;
-pub mod values;
+mod values;
 
 ghost use Rattle.std.specs.Prelude.{◌≡◌, [], ◌∷◌};
 ghost use Rattle.forms.specs.Numbers as forms;

@@ -1,71 +1,67 @@
-// The numbers of the answers on images and on lists of nodes, and the nodes that they name.
-ghost use Rattle.std.specs.Prelude.{◌≡◌};
+// What the calls on images and on lists of nodes tell where they refuse.
 ghost use Rattle.image.specs.Answers as image;
 ghost use Rattle.sorts.specs.Check as sorts;
 ghost use Rattle.evaluator.specs.Outcome as evaluator;
 
-use evaluator::Outcome;
-use image::{Found, Written};
-use sorts::Verdict;
+use crate::refusal::Refusal;
+use evaluator::EvalError;
+use image::ImageError;
+use sorts::CheckError;
 
-pub fn found_number(f: Found) -> u32
-    ensures { result ≡ image.read_number f }
-{
-    match f {
-        Found::Pattern(_) => 0,
-        Found::TooWide => 9,
-        Found::Short => 10,
+impl Refusal for ImageError {
+    ghost number = { image.number_of };
+
+    ghost place = { image.node_of };
+
+    fn number(&self) -> u32 {
+        match self {
+            ImageError::TooWide => 9,
+            ImageError::Short => 10,
+        }
+    }
+
+    fn place(&self) -> usize {
+        0
     }
 }
 
-pub fn written_number(w: Written) -> u32
-    ensures { result ≡ image.written_number w }
-{
-    match w {
-        Written::Done => 0,
-        Written::TooWide => 9,
-        Written::Short => 10,
+impl Refusal for CheckError {
+    ghost number = { sorts.number_of };
+
+    ghost place = { sorts.node_of };
+
+    fn number(&self) -> u32 {
+        match self {
+            CheckError::Fault(_) => 8,
+            CheckError::Room => 10,
+        }
+    }
+
+    fn place(&self) -> usize {
+        match *self {
+            CheckError::Fault(i) => i,
+            CheckError::Room => 0,
+        }
     }
 }
 
-pub fn verdict_number(v: Verdict) -> u32
-    ensures { result ≡ sorts.number_of v }
-{
-    match v {
-        Verdict::Passed => 0,
-        Verdict::Fault(_) => 8,
-        Verdict::Room => 10,
-    }
-}
+impl Refusal for EvalError {
+    ghost number = { evaluator.number_of };
 
-pub fn verdict_node(v: Verdict) -> usize
-    ensures { result ≡ sorts.node_of v }
-{
-    match v {
-        Verdict::Passed => 0,
-        Verdict::Fault(i) => i,
-        Verdict::Room => 0,
-    }
-}
+    ghost place = { evaluator.node_of };
 
-pub fn evaluated_number(o: Outcome) -> u32
-    ensures { result ≡ evaluator.number_of o }
-{
-    match o {
-        Outcome::Done => 0,
-        Outcome::Fault(_) => 8,
-        Outcome::TooWide(_) => 9,
-        Outcome::Room => 10,
+    fn number(&self) -> u32 {
+        match self {
+            EvalError::Fault(_) => 8,
+            EvalError::TooWide(_) => 9,
+            EvalError::Room => 10,
+        }
     }
-}
 
-pub fn evaluated_node(o: Outcome) -> usize
-    ensures { result ≡ evaluator.node_of o }
-{
-    match o {
-        Outcome::Done => 0,
-        Outcome::Fault(i) => i,
-        Outcome::TooWide(i) => i,
-        Outcome::Room => 0,
+    fn place(&self) -> usize {
+        match *self {
+            EvalError::Fault(i) | EvalError::TooWide(i) => i,
+            EvalError::Room => 0,
+        }
     }
 }

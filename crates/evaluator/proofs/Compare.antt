@@ -6,6 +6,7 @@ use native.Mathlib.Nat.{div-eq_of_lt, mod-eq_of_lt, mod-lt}
 use native.Mathlib.Decide.{dec_lt}
 use native.Mathlib.Omega.{arith}
 use lib.Bits.{bit_and, and_mask}
+use mir.Val.{bool_byte}
 use lib.Dec.{leb, ltb, eqb, lit<}
 use lib.Pow.{high, low, pow-add, pow_pos}
 use borrow.Author.Tests.{lt-ltb, le-ltb, le-leb, lt-leb, eq-eqb, ne_eqb, eqb-true, eqb-false, ltb-true, ltb-false, leb-true}
@@ -169,6 +170,11 @@ upper h l e = omega arith
 -- every format but the two narrow ones is read as 3904
 pub extended : (f v : ℕ) → eqb f 2072 ≡ false → eqb f 2869 ≡ false → is_nan 3904 v ≡ is_nan f v
 extended f v n m = rw (nan-law 3904 v, nan-law f v, n, m)
+
+-- a test as a number
+pub byte-flag : (b : Bool) → bool_byte b ≡ flag_of b
+byte-flag true = refl
+byte-flag false = refl
 
 -- numbers of two words, by their words
 module _ (h l k m : ℕ) (hl : l < 2 ^ 64) (hm : m < 2 ^ 64) where

@@ -14,8 +14,9 @@ use Rattle.sorts.specs.Sorts.{sort_row}
 use Rattle.sorts.specs.Lists.{field, row_sort, sorts}
 use Rattle.sorts.specs.Check.{check_of}
 use Rattle.sorts.specs.Laws.{Passes, sorts-suc, length-sorts, fault-at, passed-room}
-use Rattle.sorts.specs.declared.Verdict.TheVariants.{Passed, Fault, Room}
-use Rattle.sorts.specs.declared.Verdict.{Verdict}
+use Rattle.std.specs.Prelude.{Result, Ok, Err}
+use Rattle.sorts.specs.declared.CheckError.{CheckError}
+use Rattle.sorts.specs.declared.CheckError.TheVariants.{Fault, Room}
 use Rattle.evaluator.specs.Inside.{ScanReady}
 use Rattle.evaluator.specs.Table.{Tables}
 use Rattle.evaluator.specs.Laws.{table-checked, table-sorted}
@@ -24,7 +25,7 @@ use Rattle.evaluator.specs.Laws.{table-checked, table-sorted}
 pub skip : (k n s rest : ℕ) → (k ≡ n → ⊥) → 0 ≡ rest → 0 ≡ cond (eqb k n) s rest
 skip k n s rest h e = rw (ne_eqb k n h) e
 
--- the sort of a node of kind n, in a table whose first i entries are the sorts of the earlier nodes: from the sorts of the operands, and from those alone where its kind looks at no other
+-- the sort of a node of kind n, in a table whose first i entries are the sorts of the earlier nodes: from the sorts of the operands
 module _ (w t : List ℕ) (i n r : ℕ) (e : take i t ≡ sorts w i) (k : get_or w (4 * i) 0 ≡ n) where
   abbrev at : ℕ → ℕ
   at p = get_or (take i t) (field w i p) 0
@@ -35,15 +36,6 @@ module _ (w t : List ℕ) (i n r : ℕ) (e : take i t ≡ sorts w i) (k : get_or
   pub as-kind : r ≡ row (at 1) (at 2) (at 3) → r ≡ row_sort w i (sorts w i)
   unfolding row_sort
   as-kind q = rw (k, ← e) q
-
-  pub as-leaf : r ≡ row 0 0 0 → row 0 0 0 ≡ row (at 1) (at 2) (at 3) → r ≡ row_sort w i (sorts w i)
-  as-leaf q s = as-kind (q ∙ s)
-
-  pub as_one : r ≡ row (at 1) 0 0 → row (at 1) 0 0 ≡ row (at 1) (at 2) (at 3) → r ≡ row_sort w i (sorts w i)
-  as_one q s = as-kind (q ∙ s)
-
-  pub as-two : r ≡ row (at 1) (at 2) 0 → row (at 1) (at 2) 0 ≡ row (at 1) (at 2) (at 3) → r ≡ row_sort w i (sorts w i)
-  as-two q s = as-kind (q ∙ s)
 
 -- a table at whose front stand the sorts of i nodes: its front, its length, and one sort more
 module _ (w t₀ t : List ℕ) (i : ℕ) (e : t ≡ sorts w i ++ drop i t₀) where
@@ -59,34 +51,30 @@ module _ (w t₀ t : List ℕ) (i : ℕ) (e : t ≡ sorts w i ++ drop i t₀) wh
 
 -- the ends of the loop: no room in the table, none in the list, a fault, all nodes
 module _ (w t₀ : List ℕ) (n : ℕ) where
-  pub no_table : length t₀ < n → Tables w n Room t₀ t₀
+  pub no_table : length t₀ < n → Tables w n (Err Room) t₀ t₀
   no_table h = record { verdict = rw (lt-leb n (length t₀) h); table = refl }
 
   module _ (r : ℕ) (room : r ≡ room_of (length w)) (enough : n ≤ length t₀) where
-    pub no_room : r < n → Tables w n Room t₀ t₀
+    pub no_room : r < n → Tables w n (Err Room) t₀ t₀
     unfolding check_of
     no_room h = record { verdict = rw (le-leb n (length t₀) enough, ← room, lt-leb n r h); table = refl }
 
-    pub faulty : (t : List ℕ) (i : ℕ) → n ≤ r → i < n → Passes w i → row_sort w i (sorts w i) ≡ 0 → t ≡ sorts w i ++ drop i t₀ → Tables w n (Fault i) t₀ t
+    pub faulty : (t : List ℕ) (i : ℕ) → n ≤ r → i < n → Passes w i → row_sort w i (sorts w i) ≡ 0 → t ≡ sorts w i ++ drop i t₀ → Tables w n (Err (Fault i)) t₀ t
     unfolding check_of
     faulty t i h k p z e =
         record { verdict = rw (le-leb n (length t₀) enough, ← room, le-leb n r h) (sym (fault-at w n i k p z)); table = e }
 
-    pub sorted : (t : List ℕ) (i : ℕ) → n ≤ r → i ≡ n → Passes w i → t ≡ sorts w i ++ drop i t₀ → Tables w n Passed t₀ t
+    pub sorted : (t : List ℕ) (i : ℕ) → n ≤ r → i ≡ n → Passes w i → t ≡ sorts w i ++ drop i t₀ → Tables w n (Ok tt) t₀ t
     unfolding check_of
     sorted t i h k p e =
         record { verdict = rw (le-leb n (length t₀) enough, ← room, le-leb n r h) (sym (rw k at p)); table = rw k at e }
 
--- a table of 65,536 entries is long enough for any count
-pub enough : (n : ℕ) → min n 65535 ≤ length (replicate {A = ℕ} 65536 0)
-enough n = omega (arith, length-replicate {A = ℕ} 65536 0)
-
--- and one of 1,024 for few
-pub enough-few : (n : ℕ) → n ≤ 1024 → min n 65535 ≤ length (replicate {A = ℕ} 1024 0)
-enough-few n h = omega (arith, length-replicate {A = ℕ} 1024 0)
+-- a clear table of k entries, where these are enough
+pub enough : (k n : ℕ) → min n 65535 ≤ k → min n 65535 ≤ length (replicate {A = ℕ} k 0)
+enough k n h = omega (arith, length-replicate {A = ℕ} k 0)
 
 -- the table of a list that passes is ready for the scan
-pub scanned : (w g t₀ t : List ℕ) (n : ℕ) (v : Verdict) → min n 65535 ≤ length t₀ → Tables w n v t₀ t → v ≡ Passed → n ≤ length g / 2 → ScanReady w g t n
+pub scanned : (w g t₀ t : List ℕ) (n : ℕ) (v : Result Unit CheckError) → min n 65535 ≤ length t₀ → Tables w n v t₀ t → v ≡ Ok tt → n ≤ length g / 2 → ScanReady w g t n
 unfolding room_of
 scanned w g t₀ t n v enough x p h =
     let r = (passed-room w n (sym (table-checked enough x) ∙ p)).room in

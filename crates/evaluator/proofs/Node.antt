@@ -9,7 +9,7 @@ use native.Mathlib.Decide.{dec_lt}
 use lib.Dec.{leb, eqb}
 use lib.ListN.{length, get_or, take}
 use lib.Seq.{get_or-take, take-take, get_or_at}
-use borrow.Author.Tests.{lt-ltb, leb-true, eqb-true, ne_eqb}
+use borrow.Author.Tests.{lt-ltb, le-leb, leb-true, eqb-true, ne_eqb}
 use Rattle.words.specs.Tests.{and_l, and_r}
 use Rattle.words.specs.Wide.{concat_of}
 use Rattle.sorts.specs.Sorts.{when, is_bits, is_float, sort_row}
@@ -20,7 +20,7 @@ use Rattle.needs.specs.Passing.{earlier}
 use Rattle.evaluator.specs.Formats.{sign_place}
 use Rattle.evaluator.specs.Value.{width_of, is_given, computed}
 use Rattle.evaluator.specs.Lists.{pair_at, row_value, vals, flat}
-use Rattle.evaluator.specs.Inside.{Patterns, ComputeReady, NamesEntry, Entry, OneReady, TwoReady, ThreeReady, NodeReady, RunReady, Kinds}
+use Rattle.evaluator.specs.Inside.{Patterns, ComputeReady, NamesEntry, Entry, operand_of, OperandsReady, NodeReady, RunReady, Kinds}
 use Rattle.evaluator.specs.Fits.{float-case, concat-inside}
 use Rattle.evaluator.specs.Laws.{length-vals, all_fit}
 use Rattle.evaluator.proofs.Column.{operand}
@@ -295,18 +295,11 @@ module _ (w g t col : List ℕ) (i : ℕ) (r : NodeReady w g t col i) where
       bool 12 _ _ (omega arith) (omega arith)
       (bit-wide 1 (first 12 k refl) (eqb-true _ _ (and_l (eqb (S 1) 1) (eqb (field w i 2) 0) (and_l (eqb (S 1) 1 && eqb (field w i 2) 0) (eqb (field w i 3) 0) e))))
 
-  pub ite-ready : get_or w (4 * i) 0 ≡ 13 → ThreeReady w i col
+  pub ite-ready : get_or w (4 * i) 0 ≡ 13 → ComputeReady 13 0 0 (pair_at col (field w i 1)) (pair_at col (field w i 2))
   unfolding sort_row arity
   ite-ready k =
       let e = tested ((eqb (S 1) 1 && is_bits (S 2)) && eqb (S 2) (S 3)) (S 3) (row-sorted 13 k) in
-      record {
-        words = r.words;
-        few = r.few;
-        first = entry (field w i 1) (first 13 k refl);
-        second = entry (field w i 2) (second 13 k refl);
-        third = entry (field w i 3) (third 13 k refl);
-        flag = bit-wide 1 (first 13 k refl) (eqb-true _ _ (and_l (eqb (S 1) 1) (is_bits (S 2)) (and_l (eqb (S 1) 1 && is_bits (S 2)) (eqb (S 2) (S 3)) e)));
-      }
+      bool 13 _ _ (omega arith) (omega arith) (bit-wide 1 (first 13 k refl) (eqb-true _ _ (and_l (eqb (S 1) 1) (is_bits (S 2)) (and_l (eqb (S 1) 1 && is_bits (S 2)) (eqb (S 2) (S 3)) e))))
 
   pub concat-ready : (sb : ℕ) → get_or w (4 * i) 0 ≡ 15 → sb ≡ S 2 → ComputeReady 15 0 sb (pair_at col (field w i 1)) (pair_at col (field w i 2))
   unfolding arity
@@ -336,23 +329,31 @@ module _ (w g t col : List ℕ) (i : ℕ) (r : NodeReady w g t col i) where
       compares 21 sa _ _ (omega arith)
       (compared (eqb (field w i 3) 0) sa (first 21 k refl) (second 21 k refl) e (tested ((is_float (S 1) && eqb (S 1) (S 2)) && eqb (field w i 3) 0) 1 (row-sorted 21 k)))
 
-  -- the calls for one operand and for two are ready, and give the node's value
+  -- the call for a kind with m operands is ready, and gives the node's value
   module _ (n : ℕ) (k : get_or w (4 * i) 0 ≡ n) where
-    pub one-ready : (sa : ℕ) → leb 1 (arity n) ≡ true → ComputeReady n sa 0 (pair_at col (field w i 1)) 0 → OneReady n sa w i col
-    one-ready sa h q = record { words = r.words; few = r.few; first = entry (field w i 1) (first n k h); ready = q }
+    pub operands-ready : (m sa sb : ℕ) → m ≡ arity n → ComputeReady n sa sb (operand_of m w i col 1) (operand_of m w i col 2) → OperandsReady m n sa sb w i col
+    operands-ready m sa sb e q = record {
+      words = r.words;
+      few = r.few;
+      first = λ h. entry (field w i 1) (first n k (le-leb 1 (arity n) (omega arith)));
+      second = λ h. entry (field w i 2) (second n k (le-leb 2 (arity n) (omega arith)));
+      third = λ h. entry (field w i 3) (third n k (le-leb 3 (arity n) (omega arith)));
+      ready = q;
+    }
 
-    pub two_ready : (sa sb : ℕ) → leb 1 (arity n) ≡ true → leb 2 (arity n) ≡ true → ComputeReady n sa sb (pair_at col (field w i 1)) (pair_at col (field w i 2)) → TwoReady n sa sb w i col
-    two_ready sa sb h l q =
-        record { words = r.words; few = r.few; first = entry (field w i 1) (first n k h); second = entry (field w i 2) (second n k l); ready = q }
+    -- operand p of m, out of the column
+    given-by : (m p : ℕ) → (p ≤ m → field w i p < i) → operand_of m w i col p ≡ cond (leb p m) (X p) 0
+    given-by m p h = by (leb p m) refl
+      where
+        by : (b : Bool) → leb p m ≡ b → cond b (pair_at col (field w i p)) 0 ≡ cond b (X p) 0
+        by true e = value_of (field w i p) (h (leb-true p m e))
+        by false e = refl
 
-    module _ (v : ℕ) (computes : is_given n ≡ false) where
-      abbrev by : ℕ → ℕ → ℕ → ℕ → ℕ → ℕ
-      by sa sb va vb vc = computed n (field w i 1) (field w i 2) (field w i 3) sa sb va vb vc
-
-      pub value-one : (sa : ℕ) → leb 1 (arity n) ≡ true → v ≡ by sa 0 (pair_at col (field w i 1)) 0 0 → by sa 0 (X 1) 0 0 ≡ by (S 1) (S 2) (X 1) (X 2) (X 3)
-          → v ≡ row_value w g i (sorts w i) (vals w g i)
-      value-one sa h e q = as-value n k v computes (e ∙ rw (value_of (field w i 1) (first n k h)) q)
-
-      pub value-two : (sa sb : ℕ) → leb 1 (arity n) ≡ true → leb 2 (arity n) ≡ true → v ≡ by sa sb (pair_at col (field w i 1)) (pair_at col (field w i 2)) 0
-          → by sa sb (X 1) (X 2) 0 ≡ by (S 1) (S 2) (X 1) (X 2) (X 3) → v ≡ row_value w g i (sorts w i) (vals w g i)
-      value-two sa sb h l e q = as-value n k v computes (e ∙ rw (value_of (field w i 1) (first n k h), value_of (field w i 2) (second n k l)) q)
+    pub value-by : (m v sa sb : ℕ) → is_given n ≡ false → m ≡ arity n
+        → v ≡ computed n (field w i 1) (field w i 2) (field w i 3) sa sb (operand_of m w i col 1) (operand_of m w i col 2) (operand_of m w i col 3)
+        → computed n (field w i 1) (field w i 2) (field w i 3) sa sb (cond (leb 1 m) (X 1) 0) (cond (leb 2 m) (X 2) 0) (cond (leb 3 m) (X 3) 0)
+        ≡ computed n (field w i 1) (field w i 2) (field w i 3) (S 1) (S 2) (X 1) (X 2) (X 3)
+        → v ≡ row_value w g i (sorts w i) (vals w g i)
+    value-by m v sa sb g e q s =
+        as-value n k v g
+        (q ∙ rw (given-by m 1 (λ h. first n k (le-leb 1 (arity n) (omega arith))), given-by m 2 (λ h. second n k (le-leb 2 (arity n) (omega arith))), given-by m 3 (λ h. third n k (le-leb 3 (arity n) (omega arith)))) s)

@@ -1,15 +1,21 @@
 -- HOW THE CODE WORKS: what the private functions of this crate ask of each other. No public promise and no theorem rests on this file.
-use Rattle.std.specs.Prelude.{◌⊎◌, ◌≡◌, Bool, not, ◌&&◌, ◌||◌, List, ℕ, ◌+◌, ◌*◌, ◌/◌, ◌^◌, ◌≤◌, ◌<◌, min, leb, ltb, eqb, length, get_or, take}
+use Rattle.std.specs.Prelude.{◌⊎◌, ◌≡◌, Bool, not, ◌&&◌, ◌||◌, List, ℕ, ◌+◌, ◌-◌, ◌*◌, ◌/◌, ◌^◌, ◌≤◌, ◌<◌, min, cond, leb, ltb, eqb, length, get_or, take}
 use Rattle.words.specs.Wide.{concat_of}
 use Rattle.sorts.specs.Lists.{field, row_sort, sorts}
 use Rattle.sorts.specs.Laws.{Passes}
-use Rattle.evaluator.specs.Formats.{sign_place}
+use Rattle.evaluator.specs.Formats.{sign_place, inf_of, nan_of}
 use Rattle.evaluator.specs.Lists.{pair_at, vals, flat}
 use Rattle.evaluator.specs.Within.{AllFit, GivenFits}
 
 -- the order of two patterns as they lie, where s is the sign bit alone
 abbrev pub order_of : ℕ → ℕ → ℕ → Bool
 order_of s x y = ((leb s x && ltb y x) && not (eqb x s && eqb y 0)) || ((ltb x y && ltb x s) && ltb y s)
+
+-- the words of format f: infinity, all bits below the sign, the one NaN
+pub record FormatWords (f inf below nan : ℕ) : Type 0 where
+  pub infinity : inf ≡ inf_of f
+  pub bits : below ≡ 2 ^ sign_place f - 1
+  pub quiet : nan ≡ nan_of f
 
 -- both are patterns of format f
 pub record Patterns (f x y : ℕ) : Type 0 where
@@ -35,27 +41,25 @@ pub record Entry (col : List ℕ) (a : ℕ) : Type 0 where
   pub room : 2 * a + 2 ≤ length col
   pub few : a ≤ 65535
 
--- node i with one operand, with two, and an Ite: the row's words, the operands' entries, and what the kind looks at
-pub record OneReady (k sa : ℕ) (w : List ℕ) (i : ℕ) (col : List ℕ) : Type 0 where
-  pub words : 4 * i + 4 ≤ length w
-  pub few : i ≤ 65535
-  pub first : Entry col (field w i 1)
-  pub ready : ComputeReady k sa 0 (pair_at col (field w i 1)) 0
+-- operand p of node i, where the node's kind has n of them
+abbrev pub operand_of : ℕ → List ℕ → ℕ → List ℕ → ℕ → ℕ
+operand_of n w i col p = cond (leb p n) (pair_at col (field w i p)) 0
 
-pub record TwoReady (k sa sb : ℕ) (w : List ℕ) (i : ℕ) (col : List ℕ) : Type 0 where
+-- .. and where it stands
+pub record OperandReady (n : ℕ) (w : List ℕ) (i p : ℕ) (col : List ℕ) : Type 0 where
   pub words : 4 * i + 4 ≤ length w
   pub few : i ≤ 65535
-  pub first : Entry col (field w i 1)
-  pub second : Entry col (field w i 2)
-  pub ready : ComputeReady k sa sb (pair_at col (field w i 1)) (pair_at col (field w i 2))
+  pub place : p ≤ 3
+  pub entry : p ≤ n → Entry col (field w i p)
 
-pub record ThreeReady (w : List ℕ) (i : ℕ) (col : List ℕ) : Type 0 where
+-- a node with n operands: the row's words, the operands' entries, and what the kind looks at
+pub record OperandsReady (n k sa sb : ℕ) (w : List ℕ) (i : ℕ) (col : List ℕ) : Type 0 where
   pub words : 4 * i + 4 ≤ length w
   pub few : i ≤ 65535
-  pub first : Entry col (field w i 1)
-  pub second : Entry col (field w i 2)
-  pub third : Entry col (field w i 3)
-  pub flag : pair_at col (field w i 1) < 2
+  pub first : 1 ≤ n → Entry col (field w i 1)
+  pub second : 2 ≤ n → Entry col (field w i 2)
+  pub third : 3 ≤ n → Entry col (field w i 3)
+  pub ready : ComputeReady k sa sb (operand_of n w i col 1) (operand_of n w i col 2)
 
 -- node i, in a table whose first i + 1 entries are sorts, and a column whose first i entries are values
 pub record NodeReady (w g t col : List ℕ) (i : ℕ) : Type 0 where
@@ -94,7 +98,7 @@ pub record Columns (n : ℕ) (g col : List ℕ) : Type 0 where
   pub gave : n ≤ length g / 2
   pub room : n ≤ length col / 2
 
--- .. and a table for them, or for as many as any list has
-pub record OverReady (n : ℕ) (g col t : List ℕ) : Type 0 where
-  pub columns : Columns n g col
-  pub enough : min n 65535 ≤ length t
+-- a table of k entries for them, or for as many as any list has
+pub record TableFor (n k : ℕ) : Type 0 where
+  pub enough : min n 65535 ≤ k
+  pub most : k ≤ 65536

@@ -1,5 +1,5 @@
 -- What holds of the values of a list: each fits its sort, rows that are added leave them as they were, and a list that passes evaluates to its end; what a table of sorts says.
-use Rattle.std.specs.Prelude.{Bool, ◌≡◌, List, [], ◌∷◌, ◌++◌, ℕ, zero, suc, ◌+◌, ◌-◌, ◌*◌, ◌/◌, ◌^◌, ◌≤◌, ◌<◌, min, length, get_or, take, drop}
+use Rattle.std.specs.Prelude.{Bool, ◌≡◌, List, [], ◌∷◌, ◌++◌, ℕ, zero, suc, ◌+◌, ◌-◌, ◌*◌, ◌/◌, ◌^◌, ◌≤◌, ◌<◌, min, length, get_or, take, drop, Result, Ok, Err}
 use Rattle.std.proofs.Math.Bool.{true, false, cond}
 use Rattle.std.proofs.Math.Path.{refl}
 use Rattle.std.proofs.Common.{sym, subst, ◌∙◌, ap, add-one, arith, lit<, length-append, take_at}
@@ -10,16 +10,16 @@ use Rattle.lists.specs.Rows.{room_of}
 use Rattle.sorts.specs.Lists.{field, row_sort, sorts}
 use Rattle.sorts.specs.Laws.{length-sorts, Passes, passed-sorted, passes-less, passed-room, agree}
 use Rattle.sorts.specs.Check.{check_of}
-use Rattle.sorts.specs.declared.Verdict.{Verdict}
-use Rattle.sorts.specs.declared.Verdict.TheVariants.{Passed, Room}
+use Rattle.sorts.specs.declared.CheckError.{CheckError}
+use Rattle.sorts.specs.declared.CheckError.TheVariants as check
 use Rattle.evaluator.specs.Value.{width_of, is_given, held, computed}
 use Rattle.evaluator.specs.Lists.{pair_at, row_value, vals, fits_at, wide_from}
-use Rattle.evaluator.specs.Outcome.{outcome_of, number_of}
+use Rattle.evaluator.specs.Outcome.{outcome_of}
 use Rattle.evaluator.specs.Within.{AllFit, GivenFits}
 use Rattle.evaluator.specs.Fits.{held_fits, computed_fits}
 use Rattle.evaluator.specs.Table.{Tables}
-use Rattle.evaluator.specs.declared.Outcome.{Outcome}
-use Rattle.evaluator.specs.declared.Outcome.TheVariants.{Done, TooWide}
+use Rattle.evaluator.specs.declared.EvalError.{EvalError}
+use Rattle.evaluator.specs.declared.EvalError.TheVariants.{TooWide}
 
 pub vals-suc : (w g : List ℕ) (n : ℕ) → vals w g (n + 1) ≡ vals w g n ++ (row_value w g n (sorts w n) (vals w g n) ∷ [])
 unfolding vals
@@ -96,21 +96,21 @@ pub wide_step : (w g : List ℕ) (i n : ℕ) → i < n → fits_at w g i (row_so
 unfolding wide_from
 wide_step w g i n h e = let q : n - i ≡ suc (n - (i + 1)) = omega arith in rw (q, e)
 
-pub wide-here : (w g : List ℕ) (i n : ℕ) → i < n → fits_at w g i (row_sort w i (sorts w i)) ≡ false → wide_from w g i (n - i) ≡ TooWide i
+pub wide-here : (w g : List ℕ) (i n : ℕ) → i < n → fits_at w g i (row_sort w i (sorts w i)) ≡ false → wide_from w g i (n - i) ≡ Err (TooWide i)
 unfolding wide_from
 wide-here w g i n h e = let q : n - i ≡ suc (n - (i + 1)) = omega arith in rw (q, e)
 
 never : ◌≡◌ {A = ℕ} 0 1 → ⊥
 never t = omega arith
 
-wide-case : (b : Bool) (o : Outcome) (i : ℕ) → cond b o (TooWide i) ≡ Done → (b ≡ true) × (o ≡ Done)
+wide-case : (b : Bool) (o : Result Unit EvalError) (i : ℕ) → cond b o (Err (TooWide i)) ≡ Ok tt → (b ≡ true) × (o ≡ Ok tt)
 wide-case true o i e = (refl, e)
-wide-case false o i e = let z : TooWide i ≡ Done = e in let t : ◌≡◌ {A = ℕ} 0 1 = cc in absurd (never t)
+wide-case false o i e = let z : ◌≡◌ {A = Result Unit EvalError} (Err (TooWide i)) (Ok tt) = e in let t : ◌≡◌ {A = ℕ} 0 1 = cc in absurd (never t)
 
 fits-given : (w g : List ℕ) (i : ℕ) → fits_at w g i (row_sort w i (sorts w i)) ≡ true → is_given (get_or w (4 * i) 0) ≡ true → pair_at g i < 2 ^ width_of (row_sort w i (sorts w i))
 fits-given w g i e q = ltb-true (pair_at g i) (2 ^ width_of (row_sort w i (sorts w i))) (rw q at e)
 
-wide-none : (w g : List ℕ) (k i : ℕ) → wide_from w g i k ≡ Done → (j : ℕ) → i ≤ j → j < i + k → fits_at w g j (row_sort w j (sorts w j)) ≡ true
+wide-none : (w g : List ℕ) (k i : ℕ) → wide_from w g i k ≡ Ok tt → (j : ℕ) → i ≤ j → j < i + k → fits_at w g j (row_sort w j (sorts w j)) ≡ true
 unfolding wide_from
 wide-none w g zero i e j h q = absurd (none h q)
   where
@@ -126,11 +126,11 @@ wide-none w g (suc k) i e j h q =
         subst (λ (x : ℕ). fits_at w g x (row_sort w x (sorts w x)) ≡ true) s (wide-case (fits_at w g i (row_sort w i (sorts w i))) (wide_from w g (i + 1) k) i e).0
 
 -- a scan to the end: each given value fits,
-pub done-fits : (w g : List ℕ) (n : ℕ) → wide_from w g 0 n ≡ Done → GivenFits w g n
+pub done-fits : (w g : List ℕ) (n : ℕ) → wide_from w g 0 n ≡ Ok tt → GivenFits w g n
 done-fits w g n e j h q = fits-given w g j (wide-none w g n 0 e j (omega arith) (omega arith)) q
 
 -- and the other way
-fits-done : (w g : List ℕ) (n k i : ℕ) → i + k ≤ n → GivenFits w g n → wide_from w g i k ≡ Done
+fits-done : (w g : List ℕ) (n k i : ℕ) → i + k ≤ n → GivenFits w g n → wide_from w g i k ≡ Ok tt
 unfolding wide_from
 fits-done w g n zero i h f = refl
 fits-done w g n (suc k) i h f = rw (here (is_given (get_or w (4 * i) 0)) refl) (fits-done w g n k (i + 1) (omega arith) f)
@@ -141,25 +141,25 @@ fits-done w g n (suc k) i h f = rw (here (is_given (get_or w (4 * i) 0)) refl) (
 
 -- A LIST THAT THE CHECK PASSES EVALUATES TO ITS END, with columns long enough and given values that fit, and each value is below 2 to its width
 pub record Evaluates (w g : List ℕ) (n m : ℕ) : Type 0 where
-  pub ends : number_of (outcome_of w n g m) ≡ 0
+  pub ends : outcome_of w n g m ≡ Ok tt
   pub fits : AllFit (vals w g n) (sorts w n)
 
-pub evaluates : (w g : List ℕ) (n m : ℕ) → check_of w n ≡ Passed → n ≤ length g / 2 → n ≤ m / 2 → GivenFits w g n → Evaluates w g n m
+pub evaluates : (w g : List ℕ) (n m : ℕ) → check_of w n ≡ Ok tt → n ≤ length g / 2 → n ≤ m / 2 → GivenFits w g n → Evaluates w g n m
 unfolding outcome_of
 evaluates w g n m p hg hm f =
-    let e : outcome_of w n g m ≡ Done =
+    let e : outcome_of w n g m ≡ Ok tt =
     rw (le-leb n (length g / 2) hg, le-leb n (m / 2) hm, p) (fits-done w g n n 0 (omega arith) f) in
-    record { ends = ap number_of e; fits = all_fit w g n (passed-room w n p).passes f }
+    record { ends = e; fits = all_fit w g n (passed-room w n p).passes f }
 
 -- what a table says that has an entry for each of n nodes, or 65,535
-module _ {w t₀ t : List ℕ} {n : ℕ} {v : Verdict} (enough : min n 65535 ≤ length t₀) (x : Tables w n v t₀ t) where
+module _ {w t₀ t : List ℕ} {n : ℕ} {v : Result Unit CheckError} (enough : min n 65535 ≤ length t₀) (x : Tables w n v t₀ t) where
   pub table-checked : v ≡ check_of w n
   unfolding check_of room_of
   table-checked = by (leb n (length t₀)) refl x.verdict
     where
-      by : (b : Bool) → leb n (length t₀) ≡ b → v ≡ cond b (check_of w n) Room → v ≡ check_of w n
+      by : (b : Bool) → leb n (length t₀) ≡ b → v ≡ cond b (check_of w n) (Err check.Room) → v ≡ check_of w n
       by true p q = q
       by false p q = rw (lt-leb n (room_of (length w)) (let h = leb-false n (length t₀) p in omega arith)) q
 
-  pub table-sorted : v ≡ Passed → take n t ≡ sorts w n
+  pub table-sorted : v ≡ Ok tt → take n t ≡ sorts w n
   table-sorted e = rw (rw e at x.table) (take_at (sorts w n) (drop n t₀) n (length-sorts w n))

@@ -1,9 +1,9 @@
 -- The values of a list of rows: one for each row, added at the end.
-use Rattle.std.specs.Prelude.{Bool, true, cond, List, [], ◌∷◌, ◌++◌, ℕ, zero, suc, ◌+◌, ◌*◌, ◌/◌, ◌%◌, ◌^◌, ltb, get_or}
+use Rattle.std.specs.Prelude.{Bool, true, cond, List, [], ◌∷◌, ◌++◌, ℕ, zero, suc, ◌+◌, ◌*◌, ◌/◌, ◌%◌, ◌^◌, ltb, get_or, Result, Ok, Err}
 use Rattle.sorts.specs.Lists.{field, row_sort, sorts}
 use Rattle.evaluator.specs.Value.{width_of, is_given, held, computed}
-use Rattle.evaluator.specs.declared.Outcome.{Outcome}
-use Rattle.evaluator.specs.declared.Outcome.TheVariants.{Done, TooWide}
+use Rattle.evaluator.specs.declared.EvalError.{EvalError}
+use Rattle.evaluator.specs.declared.EvalError.TheVariants.{TooWide}
 
 -- entry n of a column: two words, low first
 abbrev pub pair_at : List ℕ → ℕ → ℕ
@@ -36,6 +36,6 @@ abbrev pub fits_at : List ℕ → List ℕ → ℕ → ℕ → Bool
 fits_at w g n s = cond (is_given (get_or w (4 * n) 0)) (ltb (pair_at g n) (2 ^ width_of s)) true
 
 -- the first of k rows from i on whose given value does not fit
-unfoldable pub wide_from : List ℕ → List ℕ → ℕ → ℕ → Outcome
-wide_from w g i zero = Done
-wide_from w g i (suc k) = cond (fits_at w g i (row_sort w i (sorts w i))) (wide_from w g (i + 1) k) (TooWide i)
+unfoldable pub wide_from : List ℕ → List ℕ → ℕ → ℕ → Result Unit EvalError
+wide_from w g i zero = Ok tt
+wide_from w g i (suc k) = cond (fits_at w g i (row_sort w i (sorts w i))) (wide_from w g (i + 1) k) (Err (TooWide i))

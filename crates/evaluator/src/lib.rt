@@ -3,7 +3,7 @@
 
 pub mod table;
 
-ghost use Rattle.std.specs.Prelude.{◌≡◌, cond, not, ◌&&◌, ◌++◌, ◌+◌, ◌*◌, ◌%◌, ◌≤◌, ◌<◌, ◌^◌, eqb, ltb, length, get_or, drop};
+ghost use Rattle.std.specs.Prelude.{◌≡◌, not, ◌&&◌, ◌++◌, ◌+◌, ◌*◌, ◌%◌, ◌≤◌, ◌<◌, ◌^◌, eqb, ltb, length, get_or, drop};
 ghost use Rattle.std.specs.Int.Bits.{bit_and};
 ghost use Rattle.words.specs.Wide.{val};
 ghost use Rattle.sorts.specs.Lists.{field, sorts};
@@ -12,16 +12,15 @@ ghost use Rattle.evaluator.specs.Formats.{sign_place};
 ghost use Rattle.evaluator.specs.Exact.{f_eq, f_lt, is_nan, canon};
 ghost use Rattle.evaluator.specs.Value.{width_of, flag_of, is_given, held, computed};
 ghost use Rattle.evaluator.specs.Lists.{pair_at, row_value, vals, flat, fits_at, wide_from};
-ghost use Rattle.evaluator.specs.Outcome.{outcome_of, column_after};
-ghost use Rattle.evaluator.specs.Inside.{order_of, Patterns, ComputeReady, NamesEntry, Entry, OneReady, TwoReady, ThreeReady, NodeReady, RunReady, ScanReady, Kinds, Columns, OverReady};
+ghost use Rattle.evaluator.specs.Outcome.{of_check, outcome_of, column_after};
+ghost use Rattle.evaluator.specs.Inside.{order_of, FormatWords, Patterns, ComputeReady, NamesEntry, Entry, OperandReady, OperandsReady, operand_of, NodeReady, RunReady, ScanReady, Kinds, Columns, TableFor};
 
-use sorts::Verdict;
+use sorts::CheckError;
 use words::Wide;
 
-// What an evaluation says.
-#[derive(Clone, Copy)]
-pub enum Outcome {
-    Done,
+// Why a list is not evaluated.
+#[derive(Clone, Copy, Debug, PartialEq, Eq)]
+pub enum EvalError {
     // The first node without a sort.
     Fault(usize),
     // The first node whose given value does not fit.
@@ -30,109 +29,116 @@ pub enum Outcome {
     Room,
 }
 
-// A number of one word.
-fn word(lo: u64) -> Wide
-    ensures { val result ≡ lo }
-{
-    Wide { lo: lo, hi: 0 }
+impl From<CheckError> for EvalError {
+    ghost from_gives = { λ e r. r ≡ of_check e };
+
+    fn from(e: CheckError) -> EvalError {
+        match e {
+            CheckError::Fault(i) => EvalError::Fault(i),
+            CheckError::Room => EvalError::Room,
+        }
+    }
 }
 
-// Whether what a mask leaves of a pattern is above infinity's.
-fn above(inf: Wide, mask: Wide, v: Wide) -> bool
-    ensures { result ≡ ltb (val inf) (bit_and (val v) (val mask)) }
-{
-    words::lt(inf, words::and(v, mask))
+// A format's words: infinity, all bits below the sign, and the one NaN.
+#[derive(Clone, Copy)]
+struct Format {
+    inf: Wide,
+    below: Wide,
+    nan: Wide,
 }
 
-// By infinity's words, and those of all bits below the sign.
+impl Format {
+    const SINGLE: Format = Format {
+        inf: Wide {
+            hi: 0,
+            lo: 0x7f80_0000,
+        },
+        below: Wide {
+            hi: 0,
+            lo: 0x7fff_ffff,
+        },
+        nan: Wide {
+            hi: 0,
+            lo: 0x7fc0_0000,
+        },
+    };
+
+    const DOUBLE: Format = Format {
+        inf: Wide {
+            hi: 0,
+            lo: 0x7ff0_0000_0000_0000,
+        },
+        below: Wide {
+            hi: 0,
+            lo: 0x7fff_ffff_ffff_ffff,
+        },
+        nan: Wide {
+            hi: 0,
+            lo: 0x7ff8_0000_0000_0000,
+        },
+    };
+
+    const EXTENDED: Format = Format {
+        inf: Wide {
+            hi: 0x3fff,
+            lo: 0x8000_0000_0000_0000,
+        },
+        below: Wide {
+            hi: 0x3fff,
+            lo: 0xffff_ffff_ffff_ffff,
+        },
+        nan: Wide {
+            hi: 0x3fff,
+            lo: 0xc000_0000_0000_0000,
+        },
+    };
+
+    // Whether a pattern without its sign is above infinity.
+    fn is_nan(self, v: Wide) -> bool
+        ensures { result ≡ ltb (val self.inf) (bit_and (val v) (val self.below)) }
+    {
+        self.inf < (v & self.below)
+    }
+
+    // Whether neither of two patterns is a NaN.
+    fn numbers(self, x: Wide, y: Wide) -> bool
+        ensures { result ≡ not (ltb (val self.inf) (bit_and (val x) (val self.below))) && not (ltb (val self.inf) (bit_and (val y) (val self.below))) }
+    {
+        !self.is_nan(x) & !self.is_nan(y)
+    }
+}
+
+// What a function of a format's words gives: it is asked in one arm a format, so each format has code of its own.
+fn at_format<R, G: Fn(Format) -> R>(f: u64, of: G) -> R
+    requires { G.IsAlwaysCallable of }
+    ensures { (w : Format) × FormatWords f (val w.inf) (val w.below) (val w.nan) × G.post of w result }
+{
+    match f {
+        2072 => of(Format::SINGLE),
+        2869 => of(Format::DOUBLE),
+        _ => of(Format::EXTENDED),
+    }
+}
+
 fn is_nan(f: u64, v: Wide) -> bool
     ensures { result ≡ is_nan f (val v) }
 {
-    if f == 2072 {
-        above(word(0x7f80_0000), word(0x7fff_ffff), v)
-    } else if f == 2869 {
-        above(word(0x7ff0_0000_0000_0000), word(0x7fff_ffff_ffff_ffff), v)
-    } else {
-        above(
-            Wide {
-                lo: 0x8000_0000_0000_0000,
-                hi: 0x3fff,
-            },
-            Wide {
-                lo: 0xffff_ffff_ffff_ffff,
-                hi: 0x3fff,
-            },
-            v,
-        )
-    }
+    at_format(f, |w| w.is_nan(v))
 }
 
 // Whether a pattern is a zero: all bits below the sign are.
 fn is_zero(f: u64, v: Wide) -> bool
     ensures { result ≡ eqb (val v % 2 ^ sign_place f) 0 }
 {
-    if f == 2072 {
-        words::eq(words::and(v, word(0x7fff_ffff)), word(0))
-    } else if f == 2869 {
-        words::eq(words::and(v, word(0x7fff_ffff_ffff_ffff)), word(0))
-    } else {
-        words::eq(
-            words::and(
-                v,
-                Wide {
-                    lo: 0xffff_ffff_ffff_ffff,
-                    hi: 0x3fff,
-                },
-            ),
-            word(0),
-        )
-    }
-}
-
-// The one NaN for what is above infinity, and else the pattern.
-fn canonical_by(inf: Wide, mask: Wide, one: Wide, v: Wide) -> Wide
-    ensures { val result ≡ cond (ltb (val inf) (bit_and (val v) (val mask))) (val one) (val v) }
-{
-    choose(above(inf, mask, v), one, v)
+    at_format(f, |w| (v & w.below) == Wide::from(0))
 }
 
 // Every NaN as the one: exponent all ones, top fraction bit only.
 fn canonical(f: u64, v: Wide) -> Wide
     ensures { val result ≡ canon f (val v) }
 {
-    if f == 2072 {
-        canonical_by(word(0x7f80_0000), word(0x7fff_ffff), word(0x7fc0_0000), v)
-    } else if f == 2869 {
-        canonical_by(
-            word(0x7ff0_0000_0000_0000),
-            word(0x7fff_ffff_ffff_ffff),
-            word(0x7ff8_0000_0000_0000),
-            v,
-        )
-    } else {
-        canonical_by(
-            Wide {
-                lo: 0x8000_0000_0000_0000,
-                hi: 0x3fff,
-            },
-            Wide {
-                lo: 0xffff_ffff_ffff_ffff,
-                hi: 0x3fff,
-            },
-            Wide {
-                lo: 0xc000_0000_0000_0000,
-                hi: 0x3fff,
-            },
-            v,
-        )
-    }
-}
-
-// Whether neither of two patterns is above infinity's without its sign.
-fn numbers(inf: Wide, mask: Wide, x: Wide, y: Wide) -> bool
-    ensures { result ≡ not (ltb (val inf) (bit_and (val x) (val mask))) && not (ltb (val inf) (bit_and (val y) (val mask))) }
-{
-    !above(inf, mask, x) & !above(inf, mask, y)
+    at_format(f, |w| if w.is_nan(v) { w.nan } else { v })
 }
 
 // The order of two patterns as they lie, where s is the sign bit: two with the sign the other way round, and any with it below any without, but for two zeros.
@@ -144,18 +150,11 @@ fn order_word(s: u64, x: u64, y: u64) -> bool
     minus | plus
 }
 
-// One where a borrow goes to the upper word.
-fn carry(b: bool) -> u64
-    ensures { (result ≡ flag_of b) × (result ≤ 1) }
-{
-    if b { 1 } else { 0 }
-}
-
 // Whether a pattern of format 3904 is no NaN: 1 more than the exponent's upper bits, where the lower word is above infinity's, is not too much.
 fn is_number(v: Wide) -> bool
     ensures { result ≡ not (is_nan 3904 (val v)) }
 {
-    (v.hi & 0x3fff) + carry(0x8000_0000_0000_0000 < v.lo) < 0x4000
+    (v.hi & 0x3fff) + u64::from(0x8000_0000_0000_0000 < v.lo) < 0x4000
 }
 
 // The order of two patterns of format 3904, whose sign is bit 14 of the upper word.
@@ -163,8 +162,8 @@ fn order_pair(x: Wide, y: Wide) -> bool
     requires { Patterns 3904 (val x) (val y) }
     ensures { result ≡ order_of (2 ^ 78) (val x) (val y) }
 {
-    let up = x.hi < y.hi + carry(x.lo < y.lo);
-    let down = y.hi < x.hi + carry(y.lo < x.lo);
+    let up = x.hi < y.hi + u64::from(x.lo < y.lo);
+    let down = y.hi < x.hi + u64::from(y.lo < x.lo);
     let zeros = (x.hi == 0x4000) & (x.lo == 0) & (y.hi == 0) & (y.lo == 0);
     let minus = (0x4000 <= x.hi) & down & !zeros;
     let plus = up & (x.hi < 0x4000) & (y.hi < 0x4000);
@@ -176,17 +175,10 @@ fn less(f: u64, x: Wide, y: Wide) -> bool
     requires { Patterns f (val x) (val y) }
     ensures { result ≡ f_lt f (val x) (val y) }
 {
-    if f == 2072 {
-        numbers(word(0x7f80_0000), word(0x7fff_ffff), x, y) & order_word(0x8000_0000, x.lo, y.lo)
-    } else if f == 2869 {
-        numbers(
-            word(0x7ff0_0000_0000_0000),
-            word(0x7fff_ffff_ffff_ffff),
-            x,
-            y,
-        ) & order_word(0x8000_0000_0000_0000, x.lo, y.lo)
-    } else {
-        is_number(x) & is_number(y) & order_pair(x, y)
+    match f {
+        2072 => Format::SINGLE.numbers(x, y) & order_word(0x8000_0000, x.lo, y.lo),
+        2869 => Format::DOUBLE.numbers(x, y) & order_word(0x8000_0000_0000_0000, x.lo, y.lo),
+        _ => is_number(x) & is_number(y) & order_pair(x, y),
     }
 }
 
@@ -195,7 +187,7 @@ fn equal(f: u64, x: Wide, y: Wide) -> bool
     requires { Patterns f (val x) (val y) }
     ensures { result ≡ f_eq f (val x) (val y) }
 {
-    if words::eq(x, y) {
+    if x == y {
         !is_nan(f, x)
     } else {
         is_zero(f, x) & is_zero(f, y)
@@ -205,41 +197,31 @@ fn equal(f: u64, x: Wide, y: Wide) -> bool
 fn flag(b: bool) -> Wide
     ensures { val result ≡ flag_of b }
 {
-    if b {
-        Wide { lo: 1, hi: 0 }
-    } else {
-        Wide { lo: 0, hi: 0 }
-    }
+    Wide::from(u64::from(b))
 }
 
-fn choose(b: bool, x: Wide, y: Wide) -> Wide
-    ensures { val result ≡ cond b (val x) (val y) }
-{
-    if b { x } else { y }
-}
-
-// The value of a node that is not given, from its row, its operands' sorts and values.
+// The value of a node that is not given, from its row, its operands' sorts and values. A kind is a number, since a row is four words of a list that C lends.
 fn compute(k: u64, a: u64, b: u64, c: u64, sa: u64, sb: u64, va: Wide, vb: Wide, vc: Wide) -> Wide
     requires { ComputeReady k sa sb (val va) (val vb) }
     ensures { val result ≡ computed k a b c sa sb (val va) (val vb) (val vc) }
 {
     match k {
-        6 => Wide { lo: a, hi: b },
-        7 => words::and(va, vb),
-        8 => words::xor(va, vb),
-        9 => flag(words::eq(va, vb)),
-        10 => word(va.lo & vb.lo),
-        11 => word(va.lo | vb.lo),
-        12 => word(va.lo ^ 1),
-        13 => choose(va.lo == 1, vb, vc),
-        14 => words::extract(va, b, c),
-        15 => words::concat(va, vb, sb),
+        6 => Wide { hi: b, lo: a },
+        7 => va & vb,
+        8 => va ^ vb,
+        9 => flag(va == vb),
+        10 => Wide::from(va.lo & vb.lo),
+        11 => Wide::from(va.lo | vb.lo),
+        12 => Wide::from(va.lo ^ 1),
+        13 => if va.lo == 1 { vb } else { vc },
+        14 => va.extract(b, c),
+        15 => va.concat(vb, sb),
         20 => flag(equal(sa, va, vb)),
         21 => flag(less(sa, va, vb)),
         22 => flag(is_nan(sa, va)),
         25 => canonical(c, va),
         26 => va,
-        _ => Wide { lo: 0, hi: 0 },
+        _ => Wide::from(0),
     }
 }
 
@@ -255,32 +237,22 @@ fn is_given(k: u64) -> bool
 fn hold(s: u64, g: Wide) -> Wide
     ensures { val result ≡ held s (val g) }
 {
-    if s <= 80 {
-        return g;
+    if 80 < s && sorts::is_float(s) {
+        canonical(s, g)
+    } else {
+        g
     }
-    if sorts::is_float(s) {
-        return canonical(s, g);
-    }
-    g
 }
 
 // How many bits a value of a sort has.
 fn width_of(s: u64) -> u64
     ensures { result ≡ width_of s }
 {
-    if s <= 80 {
-        return s;
+    if 80 < s && sorts::is_float(s) {
+        sorts::pattern_width(s)
+    } else {
+        s
     }
-    if sorts::is_float(s) {
-        return sorts::pattern_width(s);
-    }
-    s
-}
-
-fn wide(x: u16) -> u64
-    ensures { result ≡ x }
-{
-    x as u64
 }
 
 // The sort of the node that word j of the list names.
@@ -288,7 +260,7 @@ fn sort_at(nodes: &[u64], j: usize, t: &[u16]) -> u64
     requires { NamesEntry nodes.now j t.now }
     ensures { result ≡ get_or t.now (get_or nodes.now j 0) 0 }
 {
-    wide(t[nodes[j] as usize])
+    u64::from(t[nodes[j] as usize])
 }
 
 // Entry i of a column.
@@ -296,92 +268,47 @@ fn pair_at(column: &[u64], i: usize) -> Wide
     requires { Entry column.now i }
     ensures { val result ≡ pair_at column.now i }
 {
-    let p = 2 * i;
     Wide {
-        lo: column[p],
-        hi: column[p + 1],
+        hi: column[2 * i + 1],
+        lo: column[2 * i],
     }
 }
 
-// The value of a constant.
-fn from_none(nodes: &[u64], i: usize) -> Wide
-    requires { (4 * i + 4 ≤ length nodes.now) × (i ≤ 65535) }
-    ensures { val result ≡ computed 6 (field nodes.now i 1) (field nodes.now i 2) (field nodes.now i 3) 0 0 0 0 0 }
+// The value of operand p of node i, where the node's kind has N of them and so many are looked at.
+fn operand<const N: usize>(nodes: &[u64], i: usize, p: usize, column: &[u64]) -> Wide
+    requires { OperandReady N nodes.now i p column.now }
+    ensures { val result ≡ operand_of N nodes.now i column.now p }
+{
+    if p <= N {
+        pair_at(column, nodes[4 * i + p] as usize)
+    } else {
+        Wide::from(0)
+    }
+}
+
+// The value of a node with N operands, entries of the column, whose sorts are handed over where its kind looks at them.
+fn computed<const N: usize>(
+    k: u64,
+    nodes: &[u64],
+    i: usize,
+    sa: u64,
+    sb: u64,
+    column: &[u64],
+) -> Wide
+    requires { OperandsReady N k sa sb nodes.now i column.now }
+    ensures { val result ≡ computed k (field nodes.now i 1) (field nodes.now i 2) (field nodes.now i 3) sa sb (operand_of N nodes.now i column.now 1) (operand_of N nodes.now i column.now 2) (operand_of N nodes.now i column.now 3) }
 {
     let j = 4 * i;
     compute(
-        6,
+        k,
         nodes[j + 1],
         nodes[j + 2],
         nodes[j + 3],
-        0,
-        0,
-        word(0),
-        word(0),
-        word(0),
-    )
-}
-
-// The value of a node with one operand, an entry of the column, whose sort is handed over where its kind looks at it.
-fn from_one(k: u64, nodes: &[u64], i: usize, sa: u64, column: &[u64]) -> Wide
-    requires { OneReady k sa nodes.now i column.now }
-    ensures { val result ≡ computed k (field nodes.now i 1) (field nodes.now i 2) (field nodes.now i 3) sa 0 (pair_at column.now (field nodes.now i 1)) 0 0 }
-{
-    let j = 4 * i;
-    let a = nodes[j + 1];
-    compute(
-        k,
-        a,
-        nodes[j + 2],
-        nodes[j + 3],
-        sa,
-        0,
-        pair_at(column, a as usize),
-        word(0),
-        word(0),
-    )
-}
-
-// The value of a node with two.
-fn from_two(k: u64, nodes: &[u64], i: usize, sa: u64, sb: u64, column: &[u64]) -> Wide
-    requires { TwoReady k sa sb nodes.now i column.now }
-    ensures { val result ≡ computed k (field nodes.now i 1) (field nodes.now i 2) (field nodes.now i 3) sa sb (pair_at column.now (field nodes.now i 1)) (pair_at column.now (field nodes.now i 2)) 0 }
-{
-    let j = 4 * i;
-    let a = nodes[j + 1];
-    let b = nodes[j + 2];
-    compute(
-        k,
-        a,
-        b,
-        nodes[j + 3],
         sa,
         sb,
-        pair_at(column, a as usize),
-        pair_at(column, b as usize),
-        word(0),
-    )
-}
-
-// The value of an Ite: the branch that its condition picks.
-fn from_three(nodes: &[u64], i: usize, column: &[u64]) -> Wide
-    requires { ThreeReady nodes.now i column.now }
-    ensures { val result ≡ computed 13 (field nodes.now i 1) (field nodes.now i 2) (field nodes.now i 3) 0 0 (pair_at column.now (field nodes.now i 1)) (pair_at column.now (field nodes.now i 2)) (pair_at column.now (field nodes.now i 3)) }
-{
-    let j = 4 * i;
-    let a = nodes[j + 1];
-    let b = nodes[j + 2];
-    let c = nodes[j + 3];
-    compute(
-        13,
-        a,
-        b,
-        c,
-        0,
-        0,
-        pair_at(column, a as usize),
-        pair_at(column, b as usize),
-        pair_at(column, c as usize),
+        operand::<N>(nodes, i, 1, column),
+        operand::<N>(nodes, i, 2, column),
+        operand::<N>(nodes, i, 3, column),
     )
 }
 
@@ -391,24 +318,23 @@ fn node_value(nodes: &[u64], given: &[u64], t: &[u16], column: &[u64], i: usize)
     ensures { val result ≡ row_value nodes.now given.now i (sorts nodes.now i) (vals nodes.now given.now i) }
 {
     let j = 4 * i;
-    let k = nodes[j];
-    match k {
-        6 => from_none(nodes, i),
-        7 => from_two(7, nodes, i, 0, 0, column),
-        8 => from_two(8, nodes, i, 0, 0, column),
-        9 => from_two(9, nodes, i, 0, 0, column),
-        10 => from_two(10, nodes, i, 0, 0, column),
-        11 => from_two(11, nodes, i, 0, 0, column),
-        12 => from_one(12, nodes, i, 0, column),
-        13 => from_three(nodes, i, column),
-        14 => from_one(14, nodes, i, 0, column),
-        15 => from_two(15, nodes, i, 0, sort_at(nodes, j + 2, t), column),
-        20 => from_two(20, nodes, i, sort_at(nodes, j + 1, t), 0, column),
-        21 => from_two(21, nodes, i, sort_at(nodes, j + 1, t), 0, column),
-        22 => from_one(22, nodes, i, sort_at(nodes, j + 1, t), column),
-        25 => from_one(25, nodes, i, 0, column),
-        26 => from_one(26, nodes, i, 0, column),
-        _ => hold(wide(t[i]), pair_at(given, i)),
+    match nodes[j] {
+        6 => computed::<0>(6, nodes, i, 0, 0, column),
+        7 => computed::<2>(7, nodes, i, 0, 0, column),
+        8 => computed::<2>(8, nodes, i, 0, 0, column),
+        9 => computed::<2>(9, nodes, i, 0, 0, column),
+        10 => computed::<2>(10, nodes, i, 0, 0, column),
+        11 => computed::<2>(11, nodes, i, 0, 0, column),
+        12 => computed::<1>(12, nodes, i, 0, 0, column),
+        13 => computed::<3>(13, nodes, i, 0, 0, column),
+        14 => computed::<1>(14, nodes, i, 0, 0, column),
+        15 => computed::<2>(15, nodes, i, 0, sort_at(nodes, j + 2, t), column),
+        20 => computed::<2>(20, nodes, i, sort_at(nodes, j + 1, t), 0, column),
+        21 => computed::<2>(21, nodes, i, sort_at(nodes, j + 1, t), 0, column),
+        22 => computed::<1>(22, nodes, i, sort_at(nodes, j + 1, t), 0, column),
+        25 => computed::<1>(25, nodes, i, 0, 0, column),
+        26 => computed::<1>(26, nodes, i, 0, 0, column),
+        _ => hold(u64::from(t[i]), pair_at(given, i)),
     }
 }
 
@@ -417,28 +343,24 @@ fn fits_at(nodes: &[u64], given: &[u64], t: &[u16], i: usize) -> bool
     requires { (i < 65535) × (4 * i + 4 ≤ length nodes.now) × (2 * i + 2 ≤ length given.now) × (i < length t.now) × (get_or nodes.now (4 * i) 0 < 64) }
     ensures { result ≡ fits_at nodes.now given.now i (get_or t.now i 0) }
 {
-    let j = 4 * i;
-    if is_given(nodes[j]) {
-        words::fits(pair_at(given, i), width_of(wide(t[i])))
+    if is_given(nodes[4 * i]) {
+        pair_at(given, i).fits(width_of(u64::from(t[i])))
     } else {
         true
     }
 }
 
-// The first node whose given value does not fit.
-fn first_wide(nodes: &[u64], count: usize, given: &[u64], t: &[u16]) -> Outcome
+// Whether each given value fits; else the first node whose value does not.
+fn first_wide(nodes: &[u64], count: usize, given: &[u64], t: &[u16]) -> Result<(), EvalError>
     requires { ScanReady nodes.now given.now t.now count × Kinds nodes.now count }
     ensures { result ≡ wide_from nodes.now given.now 0 count }
 {
-    let mut i = 0;
-    while i < count {
-        if fits_at(nodes, given, t, i) {
-            i += 1;
-        } else {
-            return Outcome::TooWide(i);
+    for i in 0..count {
+        if !fits_at(nodes, given, t, i) {
+            return Err(EvalError::TooWide(i));
         }
     }
-    Outcome::Done
+    Ok(())
 }
 
 // The values of the first `count` nodes, into the column.
@@ -446,100 +368,65 @@ fn run(nodes: &[u64], count: usize, given: &[u64], t: &[u16], column: &mut [u64]
     requires { RunReady nodes.now given.now t.now column.old count }
     ensures { column.new ≡ flat (vals nodes.now given.now count) ++ drop (2 * count) column.old }
 {
-    let mut i = 0;
-    while i < count {
+    for i in 0..count {
         let v = node_value(nodes, given, t, &*column, i);
-        let lo = words::low_word(v);
-        let hi = v.hi;
-        let p = 2 * i;
-        column[p] = lo;
-        column[p + 1] = hi;
-        i += 1;
+        column[2 * i] = v.lo;
+        column[2 * i + 1] = v.hi;
     }
 }
 
-// The check over a table for few nodes, and over one for any list: an array is cleared for each call.
-fn check_few(nodes: &[u64], count: usize) -> Verdict
-    requires { count ≤ 1024 }
+// The check over a table of N entries: it is cleared for each call, so few nodes have a short one.
+fn check_in<const N: usize>(nodes: &[u64], count: usize) -> Result<(), CheckError>
+    requires { TableFor count N }
     ensures { result ≡ check_of nodes.now count }
 {
-    let mut t = [0u16; 1024];
-    table::fill(nodes, count, &mut t)
-}
-
-fn check_many(nodes: &[u64], count: usize) -> Verdict
-    ensures { result ≡ check_of nodes.now count }
-{
-    let mut t = [0u16; 65536];
+    let mut t = [0u16; N];
     table::fill(nodes, count, &mut t)
 }
 
 // Whether each of the first `count` nodes has a sort; else the first that has none.
-pub fn check(nodes: &[u64], count: usize) -> Verdict
+pub fn check(nodes: &[u64], count: usize) -> Result<(), CheckError>
     ensures { result ≡ check_of nodes.now count }
 {
     if count <= 1024 {
-        check_few(nodes, count)
+        check_in::<1024>(nodes, count)
     } else {
-        check_many(nodes, count)
+        check_in::<65536>(nodes, count)
     }
 }
 
-// The evaluation with columns long enough, over a lent table.
-fn evaluate_over(
+// The evaluation with columns long enough, over a table of N entries.
+fn evaluate_in<const N: usize>(
     nodes: &[u64],
     count: usize,
     given: &[u64],
     column: &mut [u64],
-    t: &mut [u16],
-) -> Outcome
-    requires { OverReady count given.now column.old t.old }
+) -> Result<(), EvalError>
+    requires { TableFor count N × Columns count given.now column.old }
     ensures { (result ≡ outcome_of nodes.now count given.now (length column.old)) × (column.new ≡ column_after result nodes.now count given.now column.old) }
 {
-    match table::fill(nodes, count, &mut *t) {
-        Verdict::Room => Outcome::Room,
-        Verdict::Fault(i) => Outcome::Fault(i),
-        Verdict::Passed => match first_wide(nodes, count, given, &*t) {
-            Outcome::Done => {
-                run(nodes, count, given, &*t, column);
-                Outcome::Done
-            }
-            Outcome::TooWide(i) => Outcome::TooWide(i),
-            Outcome::Fault(i) => Outcome::Fault(i),
-            Outcome::Room => Outcome::Room,
-        },
-    }
-}
-
-// The evaluation over a table for few nodes, and over one for any list.
-fn evaluate_few(nodes: &[u64], count: usize, given: &[u64], column: &mut [u64]) -> Outcome
-    requires { (count ≤ 1024) × Columns count given.now column.old }
-    ensures { (result ≡ outcome_of nodes.now count given.now (length column.old)) × (column.new ≡ column_after result nodes.now count given.now column.old) }
-{
-    let mut t = [0u16; 1024];
-    evaluate_over(nodes, count, given, column, &mut t)
-}
-
-fn evaluate_many(nodes: &[u64], count: usize, given: &[u64], column: &mut [u64]) -> Outcome
-    requires { Columns count given.now column.old }
-    ensures { (result ≡ outcome_of nodes.now count given.now (length column.old)) × (column.new ≡ column_after result nodes.now count given.now column.old) }
-{
-    let mut t = [0u16; 65536];
-    evaluate_over(nodes, count, given, column, &mut t)
+    let mut t = [0u16; N];
+    table::fill(nodes, count, &mut t)?;
+    first_wide(nodes, count, given, &t)?;
+    run(nodes, count, given, &t, column);
+    Ok(())
 }
 
 // The values of the first `count` nodes into the column, or what stands in the way.
-pub fn evaluate(nodes: &[u64], count: usize, given: &[u64], column: &mut [u64]) -> Outcome
+pub fn evaluate(
+    nodes: &[u64],
+    count: usize,
+    given: &[u64],
+    column: &mut [u64],
+) -> Result<(), EvalError>
     ensures { (result ≡ outcome_of nodes.now count given.now (length column.old)) × (column.new ≡ column_after result nodes.now count given.now column.old) }
 {
-    if given.len() / 2 < count {
-        return Outcome::Room;
-    }
-    if column.len() / 2 < count {
-        return Outcome::Room;
+    if given.len() / 2 < count || column.len() / 2 < count {
+        return Err(EvalError::Room);
     }
     if count <= 1024 {
-        return evaluate_few(nodes, count, given, column);
+        evaluate_in::<1024>(nodes, count, given, column)
+    } else {
+        evaluate_in::<65536>(nodes, count, given, column)
     }
-    evaluate_many(nodes, count, given, column)
 }

@@ -2,16 +2,16 @@
 ghost use Rattle.std.specs.Prelude.{◌≡◌};
 ghost use Rattle.export.specs.Values.{pattern_words, ReadsImage, WritesImage, ChecksNodes, EvaluatesNodes};
 
-use image::Found;
+use answers::refusal::{Refusal, number_of, place_of};
+use image::ImageError;
 use words::Wide;
 
-fn pattern_words(f: Found) -> [u64; 2]
-    ensures { result ≡ pattern_words f }
+fn pattern_words(r: Result<Wide, ImageError>) -> [u64; 2]
+    ensures { result ≡ pattern_words r }
 {
-    match f {
-        Found::Pattern(p) => [p.lo, p.hi],
-        Found::TooWide => [0u64; 2],
-        Found::Short => [0u64; 2],
+    match r {
+        Ok(p) => [p.lo, p.hi],
+        Err(e) => [e.place() as u64, 0],
     }
 }
 
@@ -20,10 +20,9 @@ pub fn x87_image_read(image: &[u8], low: u64, high: u64, out: &mut [u64]) -> u32
     ensures { ReadsImage image.now low high out.old result out.new }
 {
     if 2 <= out.len() {
-        let f = image::read(image, Wide { lo: low, hi: high });
-        let w = pattern_words(f);
-        crate::lay(out, &w);
-        return answers::values::found_number(f);
+        let r = image::read(image, Wide { hi: high, lo: low });
+        crate::lay(out, &pattern_words(r));
+        return number_of(&r);
     }
     10
 }
@@ -32,7 +31,7 @@ pub fn x87_image_read(image: &[u8], low: u64, high: u64, out: &mut [u64]) -> u32
 pub fn x87_image_write(image: &mut [u8], low: u64, high: u64) -> u32
     ensures { WritesImage image.old low high result image.new }
 {
-    answers::values::written_number(image::write(image, Wide { lo: low, hi: high }))
+    number_of(&image::write(image, Wide { hi: high, lo: low }))
 }
 
 // The sort check of the first `count` nodes; the first word of `out` is the first node without a sort, or 0.
@@ -40,9 +39,9 @@ pub fn x87_check(nodes: &[u64], count: usize, out: &mut [u64]) -> u32
     ensures { ChecksNodes nodes.now count out.old result out.new }
 {
     if 1 <= out.len() {
-        let v = evaluator::check(nodes, count);
-        out[0] = answers::values::verdict_node(v) as u64;
-        return answers::values::verdict_number(v);
+        let r = evaluator::check(nodes, count);
+        out[0] = place_of(&r) as u64;
+        return number_of(&r);
     }
     10
 }
@@ -58,9 +57,9 @@ pub fn x87_evaluate(
     ensures { EvaluatesNodes nodes.now count given.now column.old out.old result column.new out.new }
 {
     if 1 <= out.len() {
-        let o = evaluator::evaluate(nodes, count, given, column);
-        out[0] = answers::values::evaluated_node(o) as u64;
-        return answers::values::evaluated_number(o);
+        let r = evaluator::evaluate(nodes, count, given, column);
+        out[0] = place_of(&r) as u64;
+        return number_of(&r);
     }
     10
 }

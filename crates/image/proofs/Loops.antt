@@ -1,11 +1,13 @@
 -- The number in an image's bytes, and one turn of the loop that stores them.
 use mathlib.Core.List.{List, [], ◌++◌, append_assoc, append-nil}
-use mathlib.Core.Path.{◌≡◌, refl, sym, ◌∙◌, ap}
-use Prim.Native.Nat.{ℕ, zero, suc, ◌+◌, ◌-◌, ◌/◌, ◌%◌, ◌≤◌, ◌<◌}
+use mathlib.Core.Path.{◌≡◌, refl, sym, ◌∙◌}
+use Prim.Native.Nat.{ℕ, zero, suc, ◌+◌, ◌-◌, ◌*◌, ◌/◌, ◌%◌, ◌^◌, ◌≤◌, ◌<◌}
 use native.Mathlib.Numerals.{add-one}
 use native.Mathlib.Omega.{arith}
-use lib.ListN.{length, take, drop, set, take-append-drop}
-use lib.Seq.{drop-cons, take-suc-set, drop-set-lt, drop-drop}
+use lib.ListN.{length, take, drop, set}
+use lib.Seq.{drop-cons, take-suc-set}
+use lib.Bits.{bit_and, and_mask}
+use Rattle.std.proofs.Common.{take_all}
 use Rattle.words.specs.Bytes.{little_endian, bytes_of, number_in}
 
 -- the number of n bytes at a place
@@ -22,18 +24,13 @@ put-more image i v h k =
     let e : 10 - i ≡ suc (10 - (i + 1)) = omega arith in
     rw (add-one, take-suc-set image i (v % 256) k, append_assoc, ← add-one i, e)
 
--- what is beyond stays
-pub rest_more : (image image₀ : List ℕ) (i b : ℕ) → drop i image ≡ drop i image₀ → drop (i + 1) (set image i b) ≡ drop (i + 1) image₀
-rest_more image image₀ i b e =
-    drop-set-lt (i + 1) image i b (omega arith) ∙ sym (drop-drop 1 i image) ∙ ap (drop 1) e ∙ drop-drop 1 i image₀
-
 -- all ten bytes are stored
-pub put-ends : (image₀ image : List ℕ) (v rest i : ℕ) → i ≡ 10 → take i image ++ bytes_of (10 - i) rest ≡ bytes_of 10 v → drop i image ≡ drop i image₀
-    → image ≡ bytes_of 10 v ++ drop 10 image₀
+pub put-ends : (image : List ℕ) (v rest i : ℕ) → length image ≡ 10 → i ≡ 10 → take i image ++ bytes_of (10 - i) rest ≡ bytes_of 10 v → image ≡ bytes_of 10 v
 unfolding bytes_of
-put-ends image₀ image v rest i e f g =
+put-ends image v rest i h e f =
     let f' : take 10 image ++ [] ≡ bytes_of 10 v = rw e at f in
-    let g' : drop 10 image ≡ drop 10 image₀ = rw e at g in
-    sym (take-append-drop 10 image)
-    ∙ ap (λ (l : List ℕ). l ++ drop 10 image) (sym (append-nil (take 10 image)) ∙ f')
-    ∙ ap (λ (l : List ℕ). bytes_of 10 v ++ l) g'
+    sym (take_all 10 image (omega arith)) ∙ sym (append-nil (take 10 image)) ∙ f'
+
+-- the byte that is stored
+pub low-byte : (h l : ℕ) → bit_and l 255 ≡ (h * 2 ^ 64 + l) % 256
+low-byte h l = and_mask l 8 ∙ omega arith

@@ -1,28 +1,18 @@
 // The 80-bit image of a 79-bit pattern, on ten lent bytes, low byte first.
 #![tactic(auto)]
 
-ghost use Rattle.std.specs.Prelude.{◌≡◌, ◌++◌, ℕ, ◌≤◌, ◌<◌, ◌%◌, ◌^◌, length, take, drop};
+ghost use Rattle.std.specs.Prelude.{◌≡◌, ◌++◌, ℕ, ◌≤◌, ◌<◌, ◌^◌, length, take, drop};
 ghost use Rattle.words.specs.Wide.{val, wide_of};
 ghost use Rattle.words.specs.Bytes.{little_endian, bytes_of};
 ghost use Rattle.image.specs.Layout.{integer_bit, image_of, pattern_in};
 ghost use Rattle.image.specs.Answers.{read_of, write_of, image_after};
 
 use words::Wide;
+use words::bytes::le;
 
-// What reading an image finds.
-#[derive(Clone, Copy)]
-pub enum Found {
-    Pattern(Wide),
-    // The free pattern is over 79 bits.
-    TooWide,
-    // The image is under ten bytes.
-    Short,
-}
-
-// What writing a pattern says.
-#[derive(Clone, Copy)]
-pub enum Written {
-    Done,
+// Why an image is not read, or not written.
+#[derive(Clone, Copy, Debug, PartialEq, Eq)]
+pub enum ImageError {
     // The pattern is over 79 bits.
     TooWide,
     // The image is under ten bytes.
@@ -33,11 +23,7 @@ pub enum Written {
 fn integer_bit(exponent: Wide) -> Wide
     ensures { val result ≡ integer_bit (val exponent) }
 {
-    if words::eq(exponent, Wide { lo: 0, hi: 0 }) {
-        Wide { lo: 0, hi: 0 }
-    } else {
-        Wide { lo: 1, hi: 0 }
-    }
+    Wide::from(u64::from(exponent != Wide::from(0)))
 }
 
 // The image of a pattern.
@@ -45,18 +31,18 @@ fn image_of(p: Wide) -> Wide
     requires { val p < 2 ^ 79 }
     ensures { val result ≡ image_of (val p) }
 {
-    let bit = integer_bit(words::extract(p, 77, 63));
-    let top = words::concat(words::shr(p, 63), bit, 1);
-    words::concat(top, p, 63)
+    let bit = integer_bit(p.extract(77, 63));
+    let top = (p >> 63).concat(bit, 1);
+    top.concat(p, 63)
 }
 
 // The pattern of an image that has a number, and else the free one.
 fn pattern(v: Wide, free: Wide) -> Wide
-    ensures { val result ≡ pattern_in (val v) (val free) }
+    ensures { result ≡ wide_of (pattern_in (val v) (val free)) }
 {
-    let bit = integer_bit(words::extract(v, 78, 64));
-    if words::eq(words::extract(v, 63, 63), bit) {
-        words::concat(words::shr(v, 64), v, 63)
+    let bit = integer_bit(v.extract(78, 64));
+    if v.extract(63, 63) == bit {
+        (v >> 64).concat(v, 63)
     } else {
         free
     }
@@ -67,16 +53,10 @@ fn number(image: &[u8]) -> Wide
     requires { 10 ≤ length image.now }
     ensures { val result ≡ little_endian (take 10 image.now) }
 {
-    let lo = words::bytes::eight(image, 0);
-    let hi = words::bytes::two(image, 8);
-    Wide { lo, hi }
-}
-
-// The low byte.
-fn low_byte(v: Wide) -> u8
-    ensures { result ≡ val v % 256 }
-{
-    (v.lo & 255) as u8
+    Wide {
+        hi: le::<2>(image, 8),
+        lo: le::<8>(image, 0),
+    }
 }
 
 // The ten bytes of a number.
@@ -85,42 +65,35 @@ fn put(image: &mut [u8], v: Wide)
     ensures { image.new ≡ bytes_of 10 (val v) ++ drop 10 image.old }
 {
     let mut rest = v;
-    let mut i = 0;
-    while i < 10 {
-        let b = low_byte(rest);
-        image[i] = b;
-        rest = words::shr(rest, 8);
-        i += 1;
+    for byte in &mut image[..10] {
+        *byte = (rest.lo & 0xff) as u8;
+        rest = rest >> 8;
     }
 }
 
 // The pattern of the first ten bytes, or the free pattern where they have no number.
-pub fn read(image: &[u8], free: Wide) -> Found
+pub fn read(image: &[u8], free: Wide) -> Result<Wide, ImageError>
     ensures { result ≡ read_of image.now free }
 {
     if image.len() < 10 {
-        return Found::Short;
+        return Err(ImageError::Short);
     }
-    if words::fits(free, 79) {
-        let p = pattern(number(image), free);
-        let lo = words::low_word(p);
-        Found::Pattern(Wide { lo, hi: p.hi })
-    } else {
-        Found::TooWide
+    if !free.fits(79) {
+        return Err(ImageError::TooWide);
     }
+    Ok(pattern(number(image), free))
 }
 
 // The image of a pattern into the first ten bytes.
-pub fn write(image: &mut [u8], p: Wide) -> Written
+pub fn write(image: &mut [u8], p: Wide) -> Result<(), ImageError>
     ensures { (result ≡ write_of image.old p) × (image.new ≡ image_after image.old p) }
 {
     if image.len() < 10 {
-        return Written::Short;
+        return Err(ImageError::Short);
     }
-    if words::fits(p, 79) {
-        put(image, image_of(p));
-        Written::Done
-    } else {
-        Written::TooWide
+    if !p.fits(79) {
+        return Err(ImageError::TooWide);
     }
+    put(image, image_of(p));
+    Ok(())
 }

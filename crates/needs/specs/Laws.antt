@@ -1,7 +1,7 @@
 -- The marks of the pass are exactly what the root needs.
 use Rattle.std.specs.Prelude.{◌≡◌, Bool, cond, length, set, replicate}
 use Rattle.std.proofs.Math.Path.{refl, sym}
-use Rattle.std.proofs.Common.{ap, ◌∙◌, length-set, get_or-set_same, get_or-set_other}
+use Rattle.std.proofs.Common.{ap, ◌∙◌, add-one, length-set, get_or-set_same, get_or-set_other}
 use Rattle.std.proofs.Math.Bool.{true, false}
 use mathlib.Core.List.{List, [], ◌∷◌}
 use Prim.Native.Nat.{ℕ, zero, suc, ◌+◌, ◌-◌, ◌*◌, ◌≤◌, ◌<◌}
@@ -115,11 +115,15 @@ module _ (w : List ℕ) where
   pub length-spread : (n : ℕ) (m : List ℕ) → length (spread w n m) ≡ length m
   length-spread n m = step_keeps (λ l. length l ≡ length m) n m (λ l a on o e. length-set l a 1 ∙ e) refl
 
-  -- a turn of the pass
-  pub turn : (i : ℕ) (m m' : List ℕ) → 0 < i → m' ≡ spread w (i - 1) m → pass w (i - 1) m' ≡ pass w i m
+  -- a turn of the pass, and the last one
+  pub turn : (i : ℕ) (m m' : List ℕ) → m' ≡ spread w i m → pass w i m' ≡ pass w (i + 1) m
   unfolding pass
-  turn zero m m' h e = absurd (omega arith)
-  turn (suc k) m m' h e = let z : suc k - 1 ≡ k = omega arith in rw (e, z)
+  turn i m m' e = rw (e, add-one i)
+
+  pub last : (i : ℕ) (m m' : List ℕ) → i ≡ 0 → m' ≡ spread w i m → m' ≡ pass w (i + 1) m
+  unfolding pass
+  last zero m m' z e = e
+  last (suc i) m m' z e = absurd (omega arith)
 
   -- marks stay
   stays : (k : ℕ) (m : List ℕ) (j : ℕ) → On m j → On (pass w k m) j

@@ -5,37 +5,26 @@ ghost use Rattle.std.specs.Prelude.{◌≡◌, ◌+◌, ◌*◌, ◌≤◌, ◌<
 ghost use Rattle.needs.specs.Needed.{arity, marked, spread, marked_from};
 
 // How many operands a node of a kind has: they are the first of its three words a, b, c.
+#[tactic(auto, unfolding(crate::specs::Needed::arity))]
 pub fn arity(k: u64) -> u64
     ensures { result ≡ arity k }
 {
-    if k <= 6 {
-        0
-    } else if k == 13 {
-        3
-    } else if k <= 11 {
-        2
-    } else if k == 12 {
-        1
-    } else if k == 14 {
-        1
-    } else if k <= 21 {
-        2
-    } else if k <= 29 {
-        1
-    } else {
-        0
+    match k {
+        7..=11 | 15..=21 => 2,
+        12 | 14 | 22..=29 => 1,
+        13 => 3,
+        _ => 0,
     }
 }
 
 // Marks a where it is an operand of node i: one that is not earlier is none.
+#[tactic(auto, unfolding(crate::specs::Needed::marked))]
 fn one(m: &mut [u8], i: usize, on: bool, a: u64)
     requires { i ≤ length m.old }
     ensures { m.new ≡ marked i on a m.old }
 {
-    if on {
-        if a < i as u64 {
-            m[a as usize] = 1;
-        }
+    if on && a < i as u64 {
+        m[a as usize] = 1;
     }
 }
 
@@ -61,16 +50,11 @@ fn step(nodes: &[u64], i: usize, m: &mut [u8])
 pub fn mark(nodes: &[u64], root: usize, m: &mut [u8])
     ensures { m.new ≡ marked_from nodes.now root m.old }
 {
-    if nodes.len() / 4 <= root {
-        return;
-    }
-    if m.len() <= root {
+    if nodes.len() / 4 <= root || m.len() <= root {
         return;
     }
     m[root] = 1;
-    let mut i = root + 1;
-    while 0 < i {
-        step(nodes, i - 1, m);
-        i -= 1;
+    for i in (0..=root).rev() {
+        step(nodes, i, m);
     }
 }

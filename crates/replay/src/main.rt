@@ -26,7 +26,7 @@ type Head = [u8; 289];
 fn two(s: &[u8], at: usize) -> usize
     ensures { result < 65536 }
 {
-    words::bytes::two(s, at) as usize
+    words::bytes::le::<2>(s, at) as usize
 }
 
 // The words that bytes make, so many for each, as many as there are of both.
@@ -34,7 +34,7 @@ fn load(words: &mut [u64], s: &[u8], size: usize)
     requires { 0 < size }
 {
     for (word, bytes) in words.iter_mut().zip(s.chunks_exact(size)) {
-        *word = words::bytes::eight(bytes, 0);
+        *word = words::bytes::le::<8>(bytes, 0);
     }
 }
 
@@ -106,8 +106,8 @@ fn record_equal(head: &Head, input: &[u8]) -> bool {
 
 // Whether both lists have the rows of a tail, each from the count of the state before on.
 fn lists_equal(head: &Head, tail: &[u8], nodes: &[u64], statements: &[u64]) -> bool {
-    let first = 4 * words::bytes::four(head, 36) as usize;
-    let second = 4 * words::bytes::four(head, 40) as usize;
+    let first = 4 * words::bytes::le::<4>(head, 36) as usize;
+    let second = 4 * words::bytes::le::<4>(head, 40) as usize;
     let Some((added, said)) = tail.split_at_checked(32 * usize::from(head[286])) else {
         return false;
     };
@@ -199,8 +199,8 @@ fn image_equal(head: &Head) -> bool {
     let mut image = [0; 10];
     let answer = export::values::x87_image_read(
         &head[..10],
-        words::bytes::eight(head, 10),
-        words::bytes::eight(head, 18),
+        words::bytes::le::<8>(head, 10),
+        words::bytes::le::<8>(head, 18),
         &mut out,
     );
     export::values::x87_image_write(&mut image, out[0], out[1]);

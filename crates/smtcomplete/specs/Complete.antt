@@ -1,5 +1,5 @@
 -- COMPLETENESS: the text of the marked nodes of a list that passes is a run of the grammar, and the tables that it leaves hold the compact formula.
-use Rattle.std.specs.Prelude.{◌≡◌, refl, Bool, true, false, ◌&&◌, ◌||◌, ℕ, ◌<◌, ◌^◌, ltb, eqb, get_or}
+use Rattle.std.specs.Prelude.{◌≡◌, refl, Bool, true, false, ◌&&◌, ◌||◌, ℕ, ◌<◌, ◌^◌, ltb, eqb, get_or, Ok}
 use Rattle.std.proofs.Math.Path.{sym}
 use Rattle.std.proofs.Common.{◌∙◌, arith, eqb-true, le-leb, lt-ltb}
 use mathlib.Core.List.{List, [], append-nil}
@@ -9,7 +9,6 @@ use Rattle.lists.specs.Rows.{room_of}
 use Rattle.sorts.specs.Lists.{sorts}
 use Rattle.sorts.specs.Check.{check_of}
 use Rattle.sorts.specs.Laws.{passed-room}
-use Rattle.sorts.specs.declared.Verdict.TheVariants.{Passed}
 use Rattle.smttext.specs.Names.{kind_at, declared_is}
 use Rattle.smttext.specs.Text.{on, part, text_by}
 use Rattle.smttext.specs.declared.Part.TheVariants.{Declarations, Definitions, Assertions}
@@ -92,7 +91,7 @@ module _ (w m : List ℕ) (n : ℕ) (given : Given w m n) where
       go a = next a (all-defined w m n given a.tables a.place a.is n (omega arith))
 
 -- THE THEOREM: of a list that passes, whose words are words, with marks that are closed
-pub complete : (w m : List ℕ) (n : ℕ) → check_of w n ≡ Passed → Kept w m n → ((j : ℕ) → get_or w j 0 < 2 ^ 64) → Whole w m n
+pub complete : (w m : List ℕ) (n : ℕ) → check_of w n ≡ Ok tt → Kept w m n → ((j : ℕ) → get_or w j 0 < 2 ^ 64) → Whole w m n
 unfolding room_of
 complete w m n e k h =
     let c = passed-room w n e in

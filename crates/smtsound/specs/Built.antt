@@ -1,5 +1,5 @@
 -- THE FIRST THEOREM: what a run leaves is a list that passes, in which what a marked node needs is marked.
-use Rattle.std.specs.Prelude.{◌≡◌, refl, Bool, false, cond, ◌&&◌, leb, eqb}
+use Rattle.std.specs.Prelude.{◌≡◌, refl, Bool, false, cond, ◌&&◌, leb, eqb, Ok}
 use Rattle.std.proofs.Common.{sym, ◌∙◌, add-zero, eqb-true, leb-true, ne_eqb}
 use Rattle.std.proofs.Math.Path.{ap}
 use Rattle.std.proofs.Math.Bool.{true}
@@ -16,7 +16,6 @@ use Rattle.sorts.specs.Sorts.{sort_row}
 use Rattle.sorts.specs.Lists.{row_sort, sorts}
 use Rattle.sorts.specs.Check.{check_of}
 use Rattle.sorts.specs.Laws.{length-sorts, sorted-passes}
-use Rattle.sorts.specs.declared.Verdict.TheVariants.{Passed}
 use Rattle.needs.specs.Needed.{arity, Operand}
 use Rattle.needs.specs.Laws.{arity-most}
 use Rattle.smttext.specs.Subset.{Kept}
@@ -32,7 +31,7 @@ use Rattle.smtsound.specs.Steps.{kept-through, sound-start}
 use Rattle.smtsound.specs.Lists.{row_of, list_of, marks_of, long-list, row_at, mark-at}
 
 pub record Built (ω : State) : Type 0 where
-  pub passed : check_of (list_of ω.tables) 65535 ≡ Passed
+  pub passed : check_of (list_of ω.tables) 65535 ≡ Ok tt
   pub kept : Kept (list_of ω.tables) (marks_of ω.tables) 65535
   pub words : (j : ℕ) → get_or (list_of ω.tables) j 0 < 2 ^ 64
   pub sorted : (i : ℕ) → there ω.tables i ≡ true → get_or (sorts (list_of ω.tables) 65535) i 0 ≡ get_or ω.tables.sorts i 0
@@ -98,7 +97,7 @@ module _ (t : Tables) (part top : ℕ) (h : Nodes t part top limit) where
   sort-some : (i : ℕ) → sort_of t i ≡ 0 → ⊥
   sort-some i z = by-there t i (λ e d. let r = (h.nodes i d).row.some in let y = rw e at z in omega arith) (λ e. let y = rw e at z in omega arith)
 
-  passes : check_of (list_of t) 65535 ≡ Passed
+  passes : check_of (list_of t) 65535 ≡ Ok tt
   unfolding check_of room_of
   passes =
       rw (long-list t)

@@ -1,5 +1,5 @@
 -- THE ROWS THAT A TEXT SAYS PASS THE CHECK: the marked rows of a list that passes, with operands by their numbers among the marked ones.
-use Rattle.std.specs.Prelude.{◌≡◌, Bool, cond, List, [], ◌∷◌, ◌++◌, length, get_or}
+use Rattle.std.specs.Prelude.{◌≡◌, Bool, cond, List, [], ◌∷◌, ◌++◌, length, get_or, Ok}
 use Rattle.std.proofs.Math.Path.{refl, sym}
 use Rattle.std.proofs.Common.{◌∙◌, append_assoc, add-zero, eqb-true, le-leb, eq-eqb, length-append, get_or-append-add}
 use Rattle.std.proofs.Math.Bool.{true, false}
@@ -13,7 +13,6 @@ use Rattle.lists.specs.Rows.{room_of}
 use Rattle.sorts.specs.Lists.{field, row_sort, sorts}
 use Rattle.sorts.specs.Check.{check_of, first_fault}
 use Rattle.sorts.specs.Laws.{Passes, length-sorts, sorts-suc, passed-suc, passed-room}
-use Rattle.sorts.specs.declared.Verdict.TheVariants.{Passed}
 use Rattle.needs.specs.Needed.{arity}
 use Rattle.needs.specs.Laws.{word}
 use Rattle.viable.specs.Grammar.{clash}
@@ -123,7 +122,7 @@ module _ (w m rest : List ℕ) (n : ℕ) (passed : Passes w n) (kept : Kept w m 
       go false q f = rw (rank-off m k q) f
 
 -- THE FORMULA PASSES, whatever follows it
-pub passes : (w m rest : List ℕ) (n : ℕ) → check_of w n ≡ Passed → Kept w m n → check_of (compact w m n ++ rest) (rank m n) ≡ Passed
+pub passes : (w m rest : List ℕ) (n : ℕ) → check_of w n ≡ Ok tt → Kept w m n → check_of (compact w m n ++ rest) (rank m n) ≡ Ok tt
 unfolding check_of room_of
 passes w m rest n e kept =
     let c = passed-room w n e in

@@ -1,11 +1,10 @@
 -- THE FIVE THEOREMS OF THE TEXT: what is read is in the subset, what is in the subset is read, and where reading stops is exact.
-use Rattle.std.specs.Prelude.{◌≡◌, refl, List, ◌++◌, ℕ, suc, ◌^◌, ◌≤◌, ◌<◌, length, get_or, take}
+use Rattle.std.specs.Prelude.{◌≡◌, refl, List, ◌++◌, ℕ, suc, ◌^◌, ◌≤◌, ◌<◌, length, get_or, take, Ok}
 use Rattle.std.proofs.Common.{sym, ap, subst, ◌∙◌, arith, le-leb}
 use Rattle.viable.specs.Runs.{Stops, only}
 use Rattle.lists.specs.Rows.{room_of}
 use Rattle.sorts.specs.Check.{check_of}
 use Rattle.sorts.specs.Laws.{passed-room, passes-less}
-use Rattle.sorts.specs.declared.Verdict.TheVariants.{Passed}
 use Rattle.needs.specs.Needed.{marks}
 use Rattle.needs.specs.Laws.{root-marked, kept}
 use Rattle.smttext.specs.Text.{text_of}
@@ -59,7 +58,7 @@ stops-there x p s =
     }
 
 -- WRITTEN AND READ: the text of a root is in the subset, and says what the root needs
-pub written : (w : List ℕ) (n r : ℕ) → check_of w n ≡ Passed → r < n → ((j : ℕ) → get_or w j 0 < 2 ^ 64) → Says (text_of w r) w (marks w r) (suc r)
+pub written : (w : List ℕ) (n r : ℕ) → check_of w n ≡ Ok tt → r < n → ((j : ℕ) → get_or w j 0 < 2 ^ 64) → Says (text_of w r) w (marks w r) (suc r)
 unfolding text_of check_of
 written w n r e h k =
     let c = passed-room w n e in

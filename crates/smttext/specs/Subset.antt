@@ -1,8 +1,7 @@
 -- THE SUBSET: the texts of the marked nodes of a list that passes, where what a marked node needs is marked too; and the formula that such a text says.
-use Rattle.std.specs.Prelude.{◌≡◌, cond, List, [], ◌∷◌, ◌++◌, ℕ, zero, suc, ◌+◌, ◌^◌, ◌<◌, leb, get_or}
+use Rattle.std.specs.Prelude.{◌≡◌, cond, List, [], ◌∷◌, ◌++◌, ℕ, zero, suc, ◌+◌, ◌^◌, ◌<◌, leb, get_or, Ok}
 use Rattle.sorts.specs.Lists.{field}
 use Rattle.sorts.specs.Check.{check_of}
-use Rattle.sorts.specs.declared.Verdict.TheVariants.{Passed}
 use Rattle.needs.specs.Needed.{arity, Operand}
 use Rattle.smttext.specs.Names.{kind_at}
 use Rattle.smttext.specs.Text.{on, text_by}
@@ -16,7 +15,7 @@ pub record Kept (w m : List ℕ) (n : ℕ) : Type 0 where
 
 -- t is the text of the marked nodes below n of the list w, whose words are words
 pub record Says (t w m : List ℕ) (n : ℕ) : Type 0 where
-  pub passed : check_of w n ≡ Passed
+  pub passed : check_of w n ≡ Ok tt
   pub words : (j : ℕ) → get_or w j 0 < 2 ^ 64
   pub kept : Kept w m n
   pub text : t ≡ text_by w m n

@@ -8,8 +8,7 @@ use lib.Seq.{take-take}
 use Rattle.lists.specs.Rows.{room_of}
 use Rattle.sorts.specs.Lists.{sorts}
 use Rattle.sorts.specs.Laws.{length-sorts, take-sorts, passed-room}
-use Rattle.sorts.specs.declared.Verdict.{Verdict}
-use Rattle.sorts.specs.declared.Verdict.TheVariants.{Passed}
+use Rattle.sorts.specs.declared.CheckError.{CheckError}
 use Rattle.evaluator.specs.Table.{Tables}
 use Rattle.evaluator.specs.Laws.{table-checked, table-sorted}
 use Rattle.needs.specs.Needed.{marks, marked_from}
@@ -20,7 +19,7 @@ use Rattle.smttext.specs.declared.Part.{Part}
 use Rattle.smttext.specs.declared.Part.TheVariants.{Declarations, Definitions, Assertions}
 use Rattle.smtwriter.specs.declared.WriteError.{WriteError}
 use Rattle.smtwriter.specs.declared.WriteError.TheVariants.{NoRoot, Short}
-use Rattle.smtwriter.specs.Written.{bytes_after, checked, written_of, Writes}
+use Rattle.smtwriter.specs.Written.{bytes_after, of_check, written_of, Writes}
 use Rattle.smtwriter.specs.Inside.{parts_of, Enough, Clear, Sorted}
 
 -- a part looks at the marks of its nodes by their test alone
@@ -83,11 +82,11 @@ module _ (w : List ℕ) (n : ℕ) (t : List ℕ) (x : Sorted w n t) where
             record { answer = rw (x.passed, lt-ltb r n within) s; bytes = z.bytes ∙ left q (length (text_of w r)) (text_of w r) old ∙ ap (λ (a : Result ℕ WriteError). bytes_after a (text_of w r) old) (sym s) }
 
 -- what the table of a list says, where it has enough entries
-module _ {w t₀ t : List ℕ} {n : ℕ} {v : Verdict} (enough : Enough n t₀) (x : Tables w n v t₀ t) where
-  pub sorted : v ≡ Passed → Sorted w n t
+module _ {w t₀ t : List ℕ} {n : ℕ} {v : Result Unit CheckError} (enough : Enough n t₀) (x : Tables w n v t₀ t) where
+  pub sorted : v ≡ Ok tt → Sorted w n t
   sorted e = record { passed = sym (table-checked enough x) ∙ e; table = table-sorted enough x e }
 
-  pub refused : (r : ℕ) (old : List ℕ) (e : WriteError) → checked v ≡ Err e → Writes w n r (Err e) old old
+  pub refused : (r : ℕ) (old : List ℕ) (e : CheckError) → v ≡ Err e → Writes w n r (Err (of_check e)) old old
   unfolding written_of
   refused r old e f = record { answer = rw (← table-checked enough x, f); bytes = refl }
 

@@ -1,9 +1,8 @@
 -- What the functions inside promise.
-use Rattle.std.specs.Prelude.{◌≡◌, List, ◌++◌, ℕ, ◌≤◌, min, length, get_or, take}
+use Rattle.std.specs.Prelude.{◌≡◌, List, ◌++◌, ℕ, ◌≤◌, min, length, get_or, take, Ok}
 use Rattle.writing.specs.Bytes.{decimal}
 use Rattle.sorts.specs.Lists.{sorts}
 use Rattle.sorts.specs.Check.{check_of}
-use Rattle.sorts.specs.declared.Verdict.TheVariants.{Passed}
 use Rattle.smttext.specs.Names.{name_of, sort_text, format_text, rounding_text}
 use Rattle.smttext.specs.Text.{part}
 use Rattle.smttext.specs.declared.Part.TheVariants.{Declarations, Definitions, Assertions}
@@ -33,5 +32,5 @@ pub record Clear (n : ℕ) (m : List ℕ) : Type 0 where
 
 -- a list whose first n nodes pass, and the table of their sorts
 pub record Sorted (w : List ℕ) (n : ℕ) (t : List ℕ) : Type 0 where
-  pub passed : check_of w n ≡ Passed
+  pub passed : check_of w n ≡ Ok tt
   pub table : take n t ≡ sorts w n

@@ -2,8 +2,8 @@
 use Rattle.std.specs.Prelude.{◌≡◌, cond, List, ℕ, leb, ltb, length, Result, Ok, Err}
 use Rattle.std.proofs.lemmas.List.Edits.{sets}
 use Rattle.sorts.specs.Check.{check_of}
-use Rattle.sorts.specs.declared.Verdict.{Verdict}
-use Rattle.sorts.specs.declared.Verdict.TheVariants as verdict
+use Rattle.sorts.specs.declared.CheckError.{CheckError}
+use Rattle.sorts.specs.declared.CheckError.TheVariants as check
 use Rattle.smttext.specs.Text.{text_of}
 use Rattle.smtwriter.specs.declared.WriteError.{WriteError}
 use Rattle.smtwriter.specs.declared.WriteError.TheVariants.{Fault, Room, NoRoot, Short}
@@ -12,19 +12,18 @@ use Rattle.smtwriter.specs.declared.WriteError.TheVariants.{Fault, Room, NoRoot,
 abbrev pub fitted : List ℕ → ℕ → Result ℕ WriteError
 fitted text room = cond (leb (length text) room) (Ok (length text)) (Err Short)
 
--- what the check says, and what follows where it passes
-abbrev pub checked : Verdict → Result (Unit {0}) WriteError
-checked verdict.Passed = Ok tt
-checked (verdict.Fault i) = Err (Fault i)
-checked verdict.Room = Err Room
+-- why the text is not written, where the check does not pass
+abbrev pub of_check : CheckError → WriteError
+of_check (check.Fault i) = Fault i
+of_check check.Room = Room
 
-abbrev pub after : Result (Unit {0}) WriteError → Result ℕ WriteError → Result ℕ WriteError
+abbrev pub after : Result Unit CheckError → Result ℕ WriteError → Result ℕ WriteError
 after (Ok u) o = o
-after (Err e) o = Err e
+after (Err e) o = Err (of_check e)
 
 -- root r of the first n nodes, into so many bytes: 10, then 8, 31, 32
 unfoldable pub written_of : List ℕ → ℕ → ℕ → ℕ → Result ℕ WriteError
-written_of w n r room = after (checked (check_of w n)) (cond (ltb r n) (fitted (text_of w r) room) (Err NoRoot))
+written_of w n r room = after (check_of w n) (cond (ltb r n) (fitted (text_of w r) room) (Err NoRoot))
 
 -- the bytes after it: the text and what stood beyond it, or as they were
 abbrev pub bytes_after : Result ℕ WriteError → List ℕ → List ℕ → List ℕ

@@ -5,10 +5,10 @@ mod formula;
 
 ghost use Rattle.std.specs.Prelude.{◌≡◌, ◌≤◌, min};
 ghost use Rattle.smtwriter.specs.Inside.{Clear, Enough, Sorted};
-ghost use Rattle.smtwriter.specs.Written.{checked, Writes};
+ghost use Rattle.smtwriter.specs.Written.{of_check, Writes};
 
 use formula::Formula;
-use sorts::Verdict;
+use sorts::CheckError;
 
 // Why the text of a root is not written.
 #[derive(Clone, Copy, Debug, PartialEq, Eq)]
@@ -23,14 +23,14 @@ pub enum WriteError {
     Short,
 }
 
-// What the check says of a list.
-fn passed(v: Verdict) -> Result<(), WriteError>
-    ensures { result ≡ checked v }
-{
-    match v {
-        Verdict::Passed => Ok(()),
-        Verdict::Fault(i) => Err(WriteError::Fault(i)),
-        Verdict::Room => Err(WriteError::Room),
+impl From<CheckError> for WriteError {
+    ghost from_gives = { λ e r. r ≡ of_check e };
+
+    fn from(e: CheckError) -> WriteError {
+        match e {
+            CheckError::Fault(i) => WriteError::Fault(i),
+            CheckError::Room => WriteError::Room,
+        }
     }
 }
 
@@ -70,7 +70,7 @@ fn over<const N: usize>(
 {
     let mut sorts = [0; N];
     let mut marks = [0; N];
-    passed(evaluator::table::fill(nodes, count, &mut sorts))?;
+    evaluator::table::fill(nodes, count, &mut sorts)?;
     rooted(nodes, count, root, &sorts, &mut marks, out)
 }
 

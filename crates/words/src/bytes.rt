@@ -1,39 +1,23 @@
-// Numbers of two, four and eight bytes at a place of lent bytes, low byte first. A byte past the end counts as 0.
-ghost use Rattle.std.specs.Prelude.{◌≡◌, ◌<◌};
+// Numbers at a place of lent bytes, low byte first. A byte past the end counts as 0.
+ghost use Rattle.std.specs.Prelude.{◌≡◌, ◌<◌, ◌^◌, min};
 ghost use Rattle.words.specs.Bytes.{number_in};
 
 fn byte(s: &[u8], at: usize) -> u64
     ensures { (result ≡ number_in s.now at 1) × (result < 256) }
 {
-    if at < s.len() {
-        return s[at] as u64;
-    }
-    0
+    s.get(at).map_or(0, |b| u64::from(*b))
 }
 
-pub fn two(s: &[u8], at: usize) -> u64
-    ensures { (result ≡ number_in s.now at 2) × (result < 65536) }
+// The number of N bytes, of which a u64 holds eight.
+pub fn le<const N: usize>(s: &[u8], at: usize) -> u64
+    ensures { (result ≡ number_in s.now at (min N 8)) × (result < 256 ^ N) }
 {
-    if at < s.len() {
-        return byte(s, at) + 256 * byte(s, at + 1);
+    if s.len() <= at {
+        return 0;
     }
-    0
-}
-
-pub fn four(s: &[u8], at: usize) -> u64
-    ensures { (result ≡ number_in s.now at 4) × (result < 4294967296) }
-{
-    if at < s.len() {
-        return two(s, at) + 65536 * two(s, at + 2);
+    let mut number = 0;
+    for i in (0..N.min(8)).rev() {
+        number = byte(s, at + i) + 256 * number;
     }
-    0
-}
-
-pub fn eight(s: &[u8], at: usize) -> u64
-    ensures { result ≡ number_in s.now at 8 }
-{
-    if at < s.len() {
-        return four(s, at) + 4294967296 * four(s, at + 4);
-    }
-    0
+    number
 }

@@ -3,156 +3,160 @@
 
 pub mod bytes;
 
-ghost use Rattle.std.specs.Prelude.{◌≡◌, ℕ, ◌*◌, ◌/◌, ◌%◌, ◌^◌, ltb, eqb};
+ghost use Rattle.std.specs.Prelude.{◌≡◌, ℕ, ◌*◌, ◌/◌, ◌%◌, ◌^◌, ltb};
 ghost use Rattle.std.specs.Int.Bits.{bit_and, bit_or, bit_xor};
 ghost use Rattle.words.specs.Wide.{val, wide_of, extract_of, concat_of};
 
-// A number of up to 128 bits: its low word and its high word.
-#[derive(Clone, Copy)]
+use std::ops::{BitAnd, BitOr, BitXor, Shl, Shr};
+
+// A number of up to 128 bits: its high word and its low word, so the derived order is that of the numbers.
+#[derive(Clone, Copy, PartialEq, Eq, PartialOrd, Ord)]
 pub struct Wide {
-    pub lo: u64,
     pub hi: u64,
+    pub lo: u64,
 }
 
-// The low word: its caller learns that it is one.
-pub fn low_word(x: Wide) -> u64
-    ensures { result ≡ x.lo }
-{
-    x.lo
-}
+impl From<u64> for Wide {
+    ghost from_gives = { λ n x. x ≡ wide_of n };
 
-// Each bit where both have it.
-pub fn and(x: Wide, y: Wide) -> Wide
-    ensures { result ≡ wide_of (bit_and (val x) (val y)) }
-{
-    Wide {
-        lo: x.lo & y.lo,
-        hi: x.hi & y.hi,
+    fn from(lo: u64) -> Wide {
+        Wide { hi: 0, lo }
     }
 }
 
-// Each bit where one of them has it.
-pub fn or(x: Wide, y: Wide) -> Wide
-    ensures { result ≡ wide_of (bit_or (val x) (val y)) }
-{
-    Wide {
-        lo: x.lo | y.lo,
-        hi: x.hi | y.hi,
+impl BitAnd for Wide {
+    type Output = Wide;
+
+    ghost bitand_gives = { λ x y r. r ≡ wide_of (bit_and (val x) (val y)) };
+
+    fn bitand(self, rhs: Wide) -> Wide {
+        Wide {
+            hi: self.hi & rhs.hi,
+            lo: self.lo & rhs.lo,
+        }
     }
 }
 
-// Each bit where exactly one of them has it.
-pub fn xor(x: Wide, y: Wide) -> Wide
-    ensures { result ≡ wide_of (bit_xor (val x) (val y)) }
-{
-    Wide {
-        lo: x.lo ^ y.lo,
-        hi: x.hi ^ y.hi,
+impl BitOr for Wide {
+    type Output = Wide;
+
+    ghost bitor_gives = { λ x y r. r ≡ wide_of (bit_or (val x) (val y)) };
+
+    fn bitor(self, rhs: Wide) -> Wide {
+        Wide {
+            hi: self.hi | rhs.hi,
+            lo: self.lo | rhs.lo,
+        }
+    }
+}
+
+impl BitXor for Wide {
+    type Output = Wide;
+
+    ghost bitxor_gives = { λ x y r. r ≡ wide_of (bit_xor (val x) (val y)) };
+
+    fn bitxor(self, rhs: Wide) -> Wide {
+        Wide {
+            hi: self.hi ^ rhs.hi,
+            lo: self.lo ^ rhs.lo,
+        }
     }
 }
 
 // The bits from bit k on; none from bit 128 on.
-pub fn shr(x: Wide, k: u64) -> Wide
-    ensures { result ≡ wide_of (val x / 2 ^ k) }
-{
-    if k == 0 {
-        return x;
+impl Shr<u64> for Wide {
+    type Output = Wide;
+
+    ghost shr_gives = { λ x k r. r ≡ wide_of (val x / 2 ^ k) };
+
+    fn shr(self, k: u64) -> Wide {
+        if k == 0 {
+            return self;
+        }
+        if k < 64 {
+            return Wide {
+                hi: self.hi >> k,
+                lo: (self.lo >> k) | (self.hi << (64 - k)),
+            };
+        }
+        if k < 128 {
+            return Wide::from(self.hi >> (k - 64));
+        }
+        Wide::from(0)
     }
-    if k < 64 {
-        return Wide {
-            lo: (x.lo >> k) | (x.hi << (64 - k)),
-            hi: x.hi >> k,
-        };
-    }
-    if k < 128 {
-        return Wide {
-            lo: x.hi >> (k - 64),
-            hi: 0,
-        };
-    }
-    Wide { lo: 0, hi: 0 }
 }
 
 // All bits k places up; those past bit 127 are lost.
-pub fn shl(x: Wide, k: u64) -> Wide
-    ensures { result ≡ wide_of (val x * 2 ^ k % 2 ^ 128) }
-{
-    if k == 0 {
-        return x;
-    }
-    if k < 64 {
-        return Wide {
-            lo: x.lo << k,
-            hi: (x.hi << k) | (x.lo >> (64 - k)),
-        };
-    }
-    if k < 128 {
-        return Wide {
-            lo: 0,
-            hi: x.lo << (k - 64),
-        };
-    }
-    Wide { lo: 0, hi: 0 }
-}
+impl Shl<u64> for Wide {
+    type Output = Wide;
 
-// The low k bits; all of them from 128 on.
-pub fn low(x: Wide, k: u64) -> Wide
-    ensures { result ≡ wide_of (val x % 2 ^ k) }
-{
-    if k < 64 {
-        return Wide {
-            lo: x.lo & ((1u64 << k) - 1),
-            hi: 0,
-        };
-    }
-    if k < 128 {
-        return Wide {
-            lo: x.lo,
-            hi: x.hi & ((1u64 << (k - 64)) - 1),
-        };
-    }
-    x
-}
+    ghost shl_gives = { λ x k r. r ≡ wide_of (val x * 2 ^ k % 2 ^ 128) };
 
-// Bits hi down to lo; none where lo is over hi.
-pub fn extract(x: Wide, hi: u64, lo: u64) -> Wide
-    ensures { result ≡ wide_of (extract_of (val x) hi lo) }
-{
-    if hi < 127 {
-        shr(low(x, hi + 1), lo)
-    } else {
-        shr(x, lo)
+    fn shl(self, k: u64) -> Wide {
+        if k == 0 {
+            return self;
+        }
+        if k < 64 {
+            return Wide {
+                hi: (self.hi << k) | (self.lo >> (64 - k)),
+                lo: self.lo << k,
+            };
+        }
+        if k < 128 {
+            return Wide {
+                hi: self.lo << (k - 64),
+                lo: 0,
+            };
+        }
+        Wide::from(0)
     }
 }
 
-// x above the low k bits of y; what passes bit 127 is lost.
-pub fn concat(x: Wide, y: Wide, k: u64) -> Wide
-    ensures { result ≡ wide_of (concat_of (val x) (val y) k % 2 ^ 128) }
-{
-    or(shl(x, k), low(y, k))
-}
-
-pub fn lt(x: Wide, y: Wide) -> bool
-    ensures { result ≡ ltb (val x) (val y) }
-{
-    (x.hi < y.hi) | ((x.hi == y.hi) & (x.lo < y.lo))
-}
-
-pub fn eq(x: Wide, y: Wide) -> bool
-    ensures { result ≡ eqb (val x) (val y) }
-{
-    (x.hi == y.hi) & (x.lo == y.lo)
-}
-
-// Whether k bits hold the number.
-pub fn fits(x: Wide, k: u64) -> bool
-    ensures { result ≡ ltb (val x) (2 ^ k) }
-{
-    if k < 64 {
-        return (x.hi == 0) & (x.lo >> k == 0);
+impl Wide {
+    // The low k bits; all of them from 128 on.
+    pub fn low(self, k: u64) -> Wide
+        ensures { result ≡ wide_of (val self % 2 ^ k) }
+    {
+        if k < 64 {
+            return Wide::from(self.lo & ((1u64 << k) - 1));
+        }
+        if k < 128 {
+            return Wide {
+                hi: self.hi & ((1u64 << (k - 64)) - 1),
+                lo: self.lo,
+            };
+        }
+        self
     }
-    if k < 128 {
-        return x.hi >> (k - 64) == 0;
+
+    // Bits hi down to lo; none where lo is over hi.
+    pub fn extract(self, hi: u64, lo: u64) -> Wide
+        ensures { result ≡ wide_of (extract_of (val self) hi lo) }
+    {
+        if hi < 127 {
+            self.low(hi + 1) >> lo
+        } else {
+            self >> lo
+        }
     }
-    true
+
+    // This number above the low k bits of y; what passes bit 127 is lost.
+    pub fn concat(self, y: Wide, k: u64) -> Wide
+        ensures { result ≡ wide_of (concat_of (val self) (val y) k % 2 ^ 128) }
+    {
+        (self << k) | y.low(k)
+    }
+
+    // Whether k bits hold the number.
+    pub fn fits(self, k: u64) -> bool
+        ensures { result ≡ ltb (val self) (2 ^ k) }
+    {
+        if k < 64 {
+            return (self.hi == 0) & (self.lo >> k == 0);
+        }
+        if k < 128 {
+            return self.hi >> (k - 64) == 0;
+        }
+        true
+    }
 }

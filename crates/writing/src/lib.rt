@@ -53,8 +53,8 @@ pub trait Sink {
         ensures { took (bits n (val x)) self.old self.new }
     {
         for i in (0..n).rev() {
-            let rest = words::shr(x, i as u64);
-            self.put(b'0' + (words::low_word(rest) % 2) as u8);
+            let rest = x >> i as u64;
+            self.put(b'0' + (rest.lo % 2) as u8);
         }
     }
 }

@@ -1,6 +1,6 @@
 -- One lift of `fld` or `fstp` at 80, from any state over any lists: a load is node n and its free input node n + 1, and the node on top has the pattern
 -- that is read from the given image, or the given free one; a store names a node whose value is the image of the old top's
-use Rattle.std.specs.Prelude.{◌≡◌, Bool, false, List, ◌++◌, ℕ, ◌+◌, ◌^◌, ◌≤◌, ◌<◌, length, take, drop}
+use Rattle.std.specs.Prelude.{◌≡◌, Bool, false, List, ◌++◌, ℕ, ◌+◌, ◌^◌, ◌≤◌, ◌<◌, length, take, drop, Ok}
 use Rattle.std.proofs.Math.Path.{sym, subst}
 use Rattle.std.proofs.Common.{◌∙◌, arith}
 use borrow.Author.Tests.{le-ltb, lt-ltb}
@@ -28,7 +28,6 @@ use Rattle.memory.specs.Site.{site_of}
 use Rattle.words.specs.Wide.{wide_of}
 use Rattle.words.specs.Bytes.{little_endian, bytes_of}
 use Rattle.image.specs.Answers as image
-use Rattle.image.specs.declared.Found.TheVariants.{Pattern}
 use Rattle.sorts.specs.Lists.{sorts}
 use Rattle.evaluator.specs.Lists.{pair_at, vals}
 use Rattle.agreement.proofs.InWords.{InWords, front, back}
@@ -116,7 +115,7 @@ module _ (s : State) (i : Instruction) (nodes statements g : List ℕ) where
 
   -- In bytes: where the loaded value is the number of ten bytes, `image` reads from them what is on top,
   pub fld-80-bytes : (b : List ℕ) → Loads s i lift words g → 10 ≤ length b → little_endian (take 10 b) ≡ pair_at g s.nodes → pair_at g (s.nodes + 1) < 2 ^ 79
-      → image.read_of b (wide_of (pair_at g (s.nodes + 1))) ≡ Pattern (wide_of (value (get_or lift.st.slots 0 0)))
+      → image.read_of b (wide_of (pair_at g (s.nodes + 1))) ≡ Ok (wide_of (value (get_or lift.st.slots 0 0)))
   unfolding image.read_of
   fld-80-bytes b x long bytes fits =
       rw (le-ltb (length b) 10 long, split (pair_at g (s.nodes + 1)) 64, lt-ltb (pair_at g (s.nodes + 1)) (2 ^ 79) fits, bytes, ← x.top)

@@ -1,5 +1,5 @@
 -- A run that is tracked from nothing on: its words pass the check; and words that pass can be tracked
-use Rattle.std.specs.Prelude.{◌≡◌, refl, true, List, [], ℕ, zero, suc, ◌+◌, ◌≤◌, ◌<◌, length, get_or, take}
+use Rattle.std.specs.Prelude.{◌≡◌, refl, true, List, [], ℕ, zero, suc, ◌+◌, ◌≤◌, ◌<◌, length, get_or, take, Ok}
 use Rattle.std.proofs.Common.{sym, ap, ◌∙◌, arith, le-leb, take-suc, get_or-take}
 use Rattle.std.proofs.Math.Seq.{take-length}
 use Rattle.std.proofs.lemmas.List.{get_or_at}
@@ -10,7 +10,6 @@ use Rattle.forms.specs.declared.Instruction.{Instruction}
 use Rattle.sorts.specs.Lists.{row_sort, sorts}
 use Rattle.sorts.specs.Check.{check_of}
 use Rattle.sorts.specs.Laws.{Passes, sorts-suc, length-sorts, take-sorts, sorted-passes, passed-sorted, passed-room}
-use Rattle.sorts.specs.declared.Verdict.TheVariants.{Passed}
 use Rattle.agreement.specs.Runs.{Held, begun, ran}
 use Rattle.agreement.specs.Demands.{demanded_at}
 use Rattle.agreement.proofs.Fine.{Placed}
@@ -45,7 +44,7 @@ module _ {Γ : List ℕ} {h : Held} (t : Tracks [] 0 Γ h) where
   pub tracked-valid : valid_of h.st (room_of (length h.nodes)) (room_of (length h.statements)) ≡ true
   tracked-valid = placed-valid Γ h.st _ _ t.placed t.room t.room'
 
-  pub tracked-passes : check_of h.nodes h.st.nodes ≡ Passed
+  pub tracked-passes : check_of h.nodes h.st.nodes ≡ Ok tt
   unfolding check_of
   tracked-passes =
       let c = t.placed.count in
@@ -63,7 +62,7 @@ run-tracked nodes statements is =
 
 -- A state and words that pass
 pub passing-tracks : (h : Held) → length h.st.slots ≡ 8 → valid_of h.st (room_of (length h.nodes)) (room_of (length h.statements)) ≡ true
-    → check_of h.nodes h.st.nodes ≡ Passed → let Γ = sorts h.nodes h.st.nodes in
+    → check_of h.nodes h.st.nodes ≡ Ok tt → let Γ = sorts h.nodes h.st.nodes in
     ((i : ℕ) → i < h.st.depth → get_or Γ (get_or h.st.slots i 0) 0 ≡ 79) → ((j : ℕ) → j < h.st.statements → demanded_at Γ h.statements j ≡ true)
     → Tracks [] 0 Γ h
 passing-tracks h e p c f g =

@@ -1,4 +1,5 @@
-use Rattle.std.proofs.Common.{inl, inr, ◌∙◌, mod-eq_of_lt, ne_eqb}
+use Rattle.std.proofs.Common.{inl, inr, ◌∙◌, arith, mod-eq_of_lt, ne_eqb}
+use Rattle.words.proofs.Orders.{eq-two}
 use Rattle.evaluator.proofs.Flags.{low-is, both, either, other}
 use Rattle.evaluator.specs.Value.{computed}
 use Rattle.words.specs.Wide.{val_of}
@@ -10,41 +11,49 @@ returns-in-6 c = rw c.in-6.is
 
 pub returns-in-7 : goal.returns-in-7
 unfolding computed
-returns-in-7 c = rw (c.in-7.is, val_of _ _ c.and.ensures)
+returns-in-7 c = rw (c.in-7.is, val_of _ _ c.bitand.ensures)
 
 pub returns-in-8 : goal.returns-in-8
 unfolding computed
-returns-in-8 c = rw (c.in-8.is, val_of _ _ c.xor.ensures)
+returns-in-8 c = rw (c.in-8.is, val_of _ _ c.bitxor.ensures)
 
 pub returns-in-9 : goal.returns-in-9
 unfolding computed
-returns-in-9 c = rw (c.in-9.is, c.flag.ensures, c.eq.ensures)
+returns-in-9 c =
+    let a = c.args in
+    rw (c.in-9.is, c.flag.ensures, c.eq.ensures ∙ eq-two a.va.hi a.va.lo a.vb.hi a.vb.lo (omega arith) (omega arith))
 
 pub returns-in-10 : goal.returns-in-10
 unfolding computed
 returns-in-10 c =
     let k = c.in-10.is in
     let f = c.requires.flags (inl k) in
-    rw (k, c.word.ensures) (both c.args.va.hi c.args.va.lo f.0 c.args.vb.hi c.args.vb.lo f.1)
+    rw (k, val_of _ _ c.from.ensures) (both c.args.va.hi c.args.va.lo f.0 c.args.vb.hi c.args.vb.lo f.1)
 
 pub returns-in-11 : goal.returns-in-11
 unfolding computed
 returns-in-11 c =
     let k = c.in-11.is in
     let f = c.requires.flags (inr k) in
-    rw (k, c.word-in-11.ensures) (either c.args.va.hi c.args.va.lo f.0 c.args.vb.hi c.args.vb.lo f.1)
+    rw (k, val_of _ _ c.from-in-11.ensures) (either c.args.va.hi c.args.va.lo f.0 c.args.vb.hi c.args.vb.lo f.1)
 
 pub returns-in-12 : goal.returns-in-12
 unfolding computed
 returns-in-12 c =
     let k = c.in-12.is in
-    rw (k, c.word-in-12.ensures) (other c.args.va.hi c.args.va.lo (c.requires.flag (inl k)))
+    rw (k, val_of _ _ c.from-in-12.ensures) (other c.args.va.hi c.args.va.lo (c.requires.flag (inl k)))
 
-pub returns-in-13 : goal.returns-in-13
+pub returns-then-va-eq1 : goal.returns-then-va-eq1
 unfolding computed
-returns-in-13 c =
+returns-then-va-eq1 c =
     let k = c.in-13.is in
-    rw (k, c.choose.ensures, ← low-is c.args.va.hi c.args.va.lo (c.requires.flag (inr k)))
+    rw (k, ← low-is c.args.va.hi c.args.va.lo (c.requires.flag (inr k)), c.if-va-eq1.true)
+
+pub returns-else-va-eq1 : goal.returns-else-va-eq1
+unfolding computed
+returns-else-va-eq1 c =
+    let k = c.in-13.is in
+    rw (k, ← low-is c.args.va.hi c.args.va.lo (c.requires.flag (inr k)), ne_eqb _ _ c.if-va-eq1.false)
 
 pub returns-in-14 : goal.returns-in-14
 unfolding computed
@@ -76,4 +85,4 @@ returns-in-26 c = rw c.in-26.is
 
 pub returns-in_default : goal.returns-in_default
 unfolding computed
-returns-in_default c = simp (ne_eqb _ _ c.in_default.in_default-own.rest.1, ne_eqb _ _ c.in_default.in_default-own.rest.0.1, ne_eqb _ _ c.in_default.in_default-own.rest.0.0.1, ne_eqb _ _ c.in_default.in_default-own.rest.0.0.0.1, ne_eqb _ _ c.in_default.in_default-own.rest.0.0.0.0.1, ne_eqb _ _ c.in_default.in_default-own.rest.0.0.0.0.0.1, ne_eqb _ _ c.in_default.in_default-own.rest.0.0.0.0.0.0.1, ne_eqb _ _ c.in_default.in_default-own.rest.0.0.0.0.0.0.0.1, ne_eqb _ _ c.in_default.in_default-own.rest.0.0.0.0.0.0.0.0.1, ne_eqb _ _ c.in_default.in_default-own.rest.0.0.0.0.0.0.0.0.0.1, ne_eqb _ _ c.in_default.in_default-own.rest.0.0.0.0.0.0.0.0.0.0.1, ne_eqb _ _ c.in_default.in_default-own.rest.0.0.0.0.0.0.0.0.0.0.0.1, ne_eqb _ _ c.in_default.in_default-own.rest.0.0.0.0.0.0.0.0.0.0.0.0.1, ne_eqb _ _ c.in_default.in_default-own.rest.0.0.0.0.0.0.0.0.0.0.0.0.0.1, ne_eqb _ _ c.in_default.in_default-own.rest.0.0.0.0.0.0.0.0.0.0.0.0.0.0.1)
+returns-in_default c = val_of c.from-in_default.result 0 c.from-in_default.ensures ∙ (simp (ne_eqb _ _ c.in_default.in_default-own.rest.1, ne_eqb _ _ c.in_default.in_default-own.rest.0.1, ne_eqb _ _ c.in_default.in_default-own.rest.0.0.1, ne_eqb _ _ c.in_default.in_default-own.rest.0.0.0.1, ne_eqb _ _ c.in_default.in_default-own.rest.0.0.0.0.1, ne_eqb _ _ c.in_default.in_default-own.rest.0.0.0.0.0.1, ne_eqb _ _ c.in_default.in_default-own.rest.0.0.0.0.0.0.1, ne_eqb _ _ c.in_default.in_default-own.rest.0.0.0.0.0.0.0.1, ne_eqb _ _ c.in_default.in_default-own.rest.0.0.0.0.0.0.0.0.1, ne_eqb _ _ c.in_default.in_default-own.rest.0.0.0.0.0.0.0.0.0.1, ne_eqb _ _ c.in_default.in_default-own.rest.0.0.0.0.0.0.0.0.0.0.1, ne_eqb _ _ c.in_default.in_default-own.rest.0.0.0.0.0.0.0.0.0.0.0.1, ne_eqb _ _ c.in_default.in_default-own.rest.0.0.0.0.0.0.0.0.0.0.0.0.1, ne_eqb _ _ c.in_default.in_default-own.rest.0.0.0.0.0.0.0.0.0.0.0.0.0.1, ne_eqb _ _ c.in_default.in_default-own.rest.0.0.0.0.0.0.0.0.0.0.0.0.0.0.1))

@@ -11,15 +11,15 @@ loop-i-preserved c =
     let l = c.loop-i in
     let e : get_or a.t.now l.i 0 ≡ row_sort a.nodes.now l.i (sorts a.nodes.now l.i) =
     sort-at a.nodes.now a.t.now a.count l.i (omega arith) c.requires.0.table in
-    (omega arith, l.invariant.1 ∙ wide_step a.nodes.now a.given.now l.i a.count (omega arith) (rw (← e) (sym c.fits_at.ensures ∙ c.if-fits_at.true)))
+    l.invariant ∙ wide_step a.nodes.now a.given.now l.i a.count (omega arith) (rw (← e) (sym c.fits_at.ensures ∙ c.if-not-fits_at.false))
 
-pub returns-else-fits_at : goal.returns-else-fits_at
-returns-else-fits_at c =
+pub returns-then-not-fits_at : goal.returns-then-not-fits_at
+returns-then-not-fits_at c =
     let a = c.args in
     let l = c.loop-i in
     let e : get_or a.t.now l.i 0 ≡ row_sort a.nodes.now l.i (sorts a.nodes.now l.i) =
     sort-at a.nodes.now a.t.now a.count l.i (omega arith) c.requires.0.table in
-    sym (l.invariant.1 ∙ wide-here a.nodes.now a.given.now l.i a.count (omega arith) (rw (← e) (sym c.fits_at.ensures ∙ c.if-fits_at.false)))
+    sym (l.invariant ∙ wide-here a.nodes.now a.given.now l.i a.count (omega arith) (rw (← e) (sym c.fits_at.ensures ∙ c.if-not-fits_at.true)))
 
 pub returns : goal.returns
 unfolding wide_from
@@ -27,4 +27,4 @@ returns c =
     let a = c.args in
     let l = c.loop-i in
     let z : a.count - l.i ≡ 0 = omega arith in
-    sym (rw z at l.invariant.1)
+    sym (rw z at l.invariant)

@@ -1,10 +1,7 @@
-use Rattle.std.proofs.Common.{◌≡◌, ◌≤◌, ◌-◌, ◌*◌, length, take, drop}
+use Rattle.std.proofs.Common.{◌≡◌, ◌*◌, length, take, drop}
 use Rattle.evaluator.specs.Lists.{flat, vals}
 use Rattle.evaluator.proofs.run.Given as goal
 
 abbrev pub invariant-loop-i : goal.invariant-loop-i
 invariant-loop-i l =
-    (l.i ≤ l.count) × (length l.column ≡ length l.initial.column) × (take (2 * l.i) l.column ≡ flat (vals l.nodes l.given l.i)) × (drop (2 * l.i) l.column ≡ drop (2 * l.i) l.initial.column)
-
-abbrev pub decreases-loop-i : goal.decreases-loop-i
-decreases-loop-i l = l.count - l.i
+    (length l.column ≡ length l.initial.column) × (take (2 * l.i) l.column ≡ flat (vals l.nodes l.given l.i)) × (drop (2 * l.i) l.column ≡ drop (2 * l.i) l.initial.column)

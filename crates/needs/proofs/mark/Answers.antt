@@ -1,33 +1,31 @@
-use Rattle.std.proofs.Common.{◌≡◌, ap, ◌∙◌, ℕ, ◌+◌, ◌-◌, ◌*◌, add-one, arith, le-leb, lt-ltb, le-ltb, length, set}
-use Rattle.needs.specs.Laws.{length-spread, turn}
+use Rattle.std.proofs.Common.{◌≡◌, ap, sym, ◌∙◌, ℕ, ◌+◌, ◌-◌, ◌*◌, add-one, arith, le-leb, lt-ltb, le-ltb, length, set}
+use Rattle.needs.specs.Laws.{length-spread, turn, last}
 use Rattle.needs.specs.Needed.{pass, marked_from}
 use borrow.Author.Tests.{lt-leb}
 use Rattle.needs.proofs.mark.Goals as goal
+use Rattle.needs.proofs.mark.Goals.{then-nodes-root-via-then-nodes-root, then-nodes-root-via-else-nodes-root+then-m-root}
 
 pub returns-then-nodes-root : goal.returns-then-nodes-root
 unfolding marked_from
 returns-then-nodes-root c =
     let a = c.args in
-    rw (lt-leb (4 * a.root + 4) (length a.nodes.now) (omega arith))
-
-pub returns-then-m-root : goal.returns-then-m-root
-unfolding marked_from
-returns-then-m-root c =
-    let a = c.args in
-    rw (le-leb (4 * a.root + 4) (length a.nodes.now) (omega arith), le-ltb a.root (length a.m.now) (omega arith))
+    elim c.then-nodes-root.branch [
+      | then-nodes-root-via-then-nodes-root w ↦ rw (lt-leb (4 * a.root + 4) (length a.nodes.now) (omega arith))
+      | then-nodes-root-via-else-nodes-root+then-m-root w ↦ rw (le-leb (4 * a.root + 4) (length a.nodes.now) (omega arith), le-ltb a.root (length a.m.now) (omega arith))
+    ]
 
 pub loop-i-preserved : goal.loop-i-preserved
 loop-i-preserved c =
     let l = c.loop-i in
     let w = c.args.nodes.now in
     let e = c.step.ensures in
-    (omega arith, ap length e ∙ length-spread w (l.i - 1) l.m ∙ l.invariant.1, turn w l.i l.m _ (omega arith) e ∙ l.invariant.2)
+    let i : l.i - 1 + 1 ≡ l.i = omega arith in
+    (ap length e ∙ length-spread w l.i l.m ∙ l.invariant.0, rw i (turn w l.i l.m c.step.new.m e ∙ l.invariant.1))
 
-pub returns : goal.returns
-unfolding pass marked_from
-returns c =
+pub returns-else-m-root-2 : goal.returns-else-m-root-2
+unfolding marked_from
+returns-else-m-root-2 c =
     let a = c.args in
     let l = c.loop-i in
-    let z : l.i ≡ 0 = omega arith in
-    rw (le-leb (4 * a.root + 4) (length a.nodes.now) (omega arith), lt-ltb a.root (length a.m.now) (omega arith))
-    ((rw z at l.invariant.2) ∙ ap (λ (k : ℕ). pass a.nodes.now k (set a.m.now a.root 1)) (add-one a.root))
+    rw (le-leb (4 * a.root + 4) (length a.nodes.now) (omega arith), lt-ltb a.root (length a.m.now) (omega arith), ← add-one a.root)
+    (last a.nodes.now l.i l.m c.step.new.m (omega arith) c.step.ensures ∙ l.invariant.1)

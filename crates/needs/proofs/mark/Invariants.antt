@@ -1,9 +1,6 @@
-use Rattle.std.proofs.Common.{◌≡◌, ◌+◌, ◌≤◌, length}
+use Rattle.std.proofs.Common.{◌≡◌, ◌+◌, length}
 use Rattle.needs.specs.Needed.{pass}
 use Rattle.needs.proofs.mark.Given as goal
 
 abbrev pub invariant-loop-i : goal.invariant-loop-i
-invariant-loop-i l = (l.i ≤ l.root + 1) × (length l.m ≡ length l.initial.m) × (pass l.nodes l.i l.m ≡ pass l.nodes (l.root + 1) l.initial.m)
-
-abbrev pub decreases-loop-i : goal.decreases-loop-i
-decreases-loop-i l = l.i
+invariant-loop-i l = (length l.m ≡ length l.initial.m) × (pass l.nodes (l.i + 1) l.m ≡ pass l.nodes (l.root + 1) l.initial.m)

@@ -1,10 +1,7 @@
-use Rattle.std.proofs.Common.{◌≡◌, ◌++◌, ◌≤◌, ◌-◌, drop}
+use Rattle.std.proofs.Common.{◌≡◌, ◌++◌, drop}
 use Rattle.sorts.specs.Laws.{Passes}
 use Rattle.sorts.specs.Lists.{sorts}
 use Rattle.evaluator.proofs.table.fill.Given as goal
 
 abbrev pub invariant-loop-i : goal.invariant-loop-i
-invariant-loop-i l = (l.i ≤ l.count) × (l.t ≡ sorts l.nodes l.i ++ drop l.i l.initial.t) × Passes l.nodes l.i
-
-abbrev pub decreases-loop-i : goal.decreases-loop-i
-decreases-loop-i l = l.count - l.i
+invariant-loop-i l = (l.t ≡ sorts l.nodes l.i ++ drop l.i l.initial.t) × Passes l.nodes l.i

@@ -5,8 +5,8 @@ use Rattle.export.proofs.values.x87_image_read.Goals as goal
 pub returns-then-out-ge2 : goal.returns-then-out-ge2
 unfolding ReadsImage
 returns-then-out-ge2 c =
-    let f = c.read-f.ensures in
-    tells _ _ _ c.if-out-ge2.true (rw f at c.found_number.ensures) (rw (← f, ← c.pattern_words-w.ensures) c.lay.ensures)
+    let f = c.read-r.ensures in
+    tells _ _ _ c.if-out-ge2.true (rw f at c.number_of.ensures) (rw (← f, ← c.pattern_words.ensures) c.lay.ensures)
 
 pub returns : goal.returns
 unfolding ReadsImage

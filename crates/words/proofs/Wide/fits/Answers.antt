@@ -3,17 +3,17 @@ use Rattle.words.proofs.Masks.{whole}
 use Rattle.words.proofs.Orders.{fits-64, fits-high}
 use Rattle.words.proofs.Shifts.{two-lt}
 use Rattle.words.specs.Wide.{val}
-use Rattle.words.proofs.fits.Goals as goal
+use Rattle.words.proofs.Wide.fits.Goals as goal
 
 pub returns-then-k-lt64 : goal.returns-then-k-lt64
-returns-then-k-lt64 c = let a = c.args in fits-64 a.k a.x.hi a.x.lo (omega arith)
+returns-then-k-lt64 c = let a = c.args in fits-64 a.k a.self.hi a.self.lo (omega arith)
 
 pub returns-then-k-lt128 : goal.returns-then-k-lt128
 returns-then-k-lt128 c =
     let a = c.args in
-    fits-high a.k a.x.hi a.x.lo (omega arith) (omega arith)
+    fits-high a.k a.self.hi a.self.lo (omega arith) (omega arith)
 
 pub returns : goal.returns
 returns c =
     let a = c.args in
-    sym (lt-ltb (val a.x) (2 ^ a.k) (whole a.k (two-lt (omega arith) (omega arith)) (omega arith)))
+    sym (lt-ltb (val a.self) (2 ^ a.k) (whole a.k (two-lt (omega arith) (omega arith)) (omega arith)))

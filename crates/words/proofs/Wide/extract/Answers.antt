@@ -2,7 +2,7 @@ use Rattle.std.proofs.Common.{sym, ap, ◌∙◌, mod-eq_of_lt, arith, ℕ, ◌/
 use Rattle.words.proofs.Masks.{whole}
 use Rattle.words.proofs.Shifts.{two-lt}
 use Rattle.words.specs.Wide.{wide_of}
-use Rattle.words.proofs.extract.Goals as goal
+use Rattle.words.proofs.Wide.extract.Goals as goal
 
 pub returns-else-hi-lt127 : goal.returns-else-hi-lt127
 returns-else-hi-lt127 c =

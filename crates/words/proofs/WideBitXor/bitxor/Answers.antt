@@ -1,0 +1,7 @@
+use Rattle.std.proofs.Common.{arith, sym}
+use Rattle.words.specs.Wide.{words_of}
+use lib.Bits.{xor_block, xor_lt}
+use Rattle.words.proofs.WideBitXor.bitxor.Goals as goal
+
+pub returns : goal.returns
+returns c = let a = c.args in words_of _ _ (xor_lt 64 a.self.lo a.rhs.lo (omega arith) (omega arith)) (sym (xor_block 64 a.self.hi a.rhs.hi a.self.lo a.rhs.lo (omega arith) (omega arith)))

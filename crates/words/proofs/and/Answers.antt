@@ -1,7 +1,0 @@
-use Rattle.std.proofs.Common.{sym, arith}
-use Rattle.words.specs.Wide.{words_of}
-use lib.Bits.{and_block, and_lt}
-use Rattle.words.proofs.and.Goals as goal
-
-pub returns : goal.returns
-returns c = let a = c.args in words_of _ _ (and_lt 64 a.x.lo a.y.lo (omega arith) (omega arith)) (sym (and_block 64 a.x.hi a.y.hi a.x.lo a.y.lo (omega arith) (omega arith)))

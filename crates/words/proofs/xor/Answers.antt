@@ -1,7 +1,0 @@
-use Rattle.std.proofs.Common.{arith, sym}
-use Rattle.words.specs.Wide.{words_of}
-use lib.Bits.{xor_block, xor_lt}
-use Rattle.words.proofs.xor.Goals as goal
-
-pub returns : goal.returns
-returns c = let a = c.args in words_of _ _ (xor_lt 64 a.x.lo a.y.lo (omega arith) (omega arith)) (sym (xor_block 64 a.x.hi a.y.hi a.x.lo a.y.lo (omega arith) (omega arith)))
