@@ -1,4 +1,4 @@
-use Rattle.std.proofs.Common.{◌/◌, ◌^◌}
+use Rattle.std.proofs.Common.{refl, ◌/◌, ◌^◌}
 use Rattle.words.specs.Wide.{val}
 use Rattle.writing.proofs.Parts.{bits-more, bits_none}
 use Rattle.writing.proofs.Sink.binary.Goals as goal
@@ -8,5 +8,5 @@ loop-i-init g c = rw (← bits_none c.args.n (val c.args.x / 2 ^ c.args.n)) (g.m
 
 pub loop-i-preserved : goal.loop-i-preserved
 loop-i-preserved g c =
-    rw (← bits-more _ _ _ c.loop-i.auto.i c.loop-i-test.true _ _ c.shr-rest.ensures c.low_word.ensures)
+    rw (← bits-more _ _ _ c.loop-i.auto.i c.loop-i-test.true _ _ c.shr-rest.ensures refl)
     (g.met.Self.Sink.laws.then c.loop-i.invariant c.put.ensures)
