@@ -13,7 +13,7 @@ use Rattle.records.specs.Numbers.{record_is, number_of, place_of}
 use Rattle.records.specs.declared.Taken.{Taken}
 use Rattle.records.specs.declared.Outcome.{Outcome}
 use Rattle.records.specs.declared.Outcome.TheVariants.{Record, End, Refused}
-use Rattle.forms.specs.declared.Classified.{Classified}
+use Rattle.forms.specs.Classify.{Classified}
 use Rattle.forms.specs.Classify.{classify_of}
 use Rattle.lists.specs.Steps.{Built, Does}
 use Rattle.memory.specs.declared.Site.{Site}

@@ -1,10 +1,12 @@
-use Rattle.std.proofs.Common.{sym, ◌∙◌}
+use Rattle.std.proofs.Common.{sym, ◌∙◌, ap}
+use Rattle.details.specs.Why.{detail_number, detail_for}
 use Rattle.export.proofs.Lifting.{gives, steps_on, stops}
 use Rattle.export.proofs.lift_record_in.Goals as goal
 
 pub returns-then-is_record : goal.returns-then-is_record
+unfolding detail_for
 returns-then-is_record c =
-    let g = gives _ _ _ _ _ _ _ c.classify-classified.ensures c.detail-detail.ensures c.site_of-site.ensures _ _ _ _ _ c.lift_in-answer.ensures c.beside.ensures in
+    let g = gives _ _ _ _ _ _ _ c.classify-classified.ensures (c.number-detail.ensures ∙ ap detail_number c.detail.ensures) c.site_of-site.ensures _ _ _ _ _ c.lift_in-answer.ensures c.beside.ensures in
     rw (← c.record_at-t.ensures)
     (steps_on _ _ _ _ _ _ c.requires.1 c.requires.0 _ _ _ _ _ _ (sym c.is_record.ensures ∙ c.if-is_record.true) g
     (rw (← c.place-next.ensures) c.tell.ensures))

@@ -46,11 +46,22 @@ fn parameters(text: &str) -> Vec<&str> {
     out
 }
 
+/// Where the contract of a method stands, below those of its module: at its type.
+fn below(text: &str, start: &str) -> String {
+    if !start.starts_with("\n    ") {
+        return String::new();
+    }
+    let (_, head) = text.rsplit_once("\nimpl ").expect("an impl");
+    let name = head.split([' ', '<']).next().expect("a type");
+    format!("{name}.")
+}
+
 /// The public calls of one source text, whose contracts stand below `path`.
 fn public(krate: &str, path: &str, text: &str) -> Vec<Call> {
     let mut out = Vec::new();
-    for start in ["\npub fn ", "\npub extern \"C\" fn "] {
+    for start in ["\npub fn ", "\npub extern \"C\" fn ", "\n    pub fn "] {
         for (place, _) in text.match_indices(start) {
+            let below = below(&text[..place], start);
             let rest = &text[place + start.len()..];
             let name = rest.split(['(', '<']).next().expect("a name");
             let open = rest.find('(').expect("parameters") + 1;
@@ -63,7 +74,7 @@ fn public(krate: &str, path: &str, text: &str) -> Vec<Call> {
             out.push(Call {
                 krate: krate.to_owned(),
                 name: name.to_owned(),
-                contract: format!("{path}.{name}"),
+                contract: format!("{path}.{below}{name}"),
                 lent,
             });
         }
@@ -105,8 +116,8 @@ fn calls() -> Vec<Call> {
     out
 }
 
-/// What the theorem must state of a call. `trim` gives a reference back, of
-/// which its bytes are determined; a function on a
+/// What the theorem must state of a call. `trim` and `as_bytes` give a
+/// reference back, of which its bytes are determined; a function on a
 /// reader has its contract as a formula.
 fn expected(call: &Call) -> String {
     let Call {
@@ -115,7 +126,7 @@ fn expected(call: &Call) -> String {
     let name = call.name.replace('_', "-");
     let key = format!("pub {krate}·{name}");
     match (krate.as_str(), name.as_str()) {
-        ("texts", "trim") => format!("{key} : Fixes {contract}.Reads.Post (λ κ r x. r.now)"),
+        ("texts", "trim" | "as-bytes") => format!("{key} : Fixes {contract}.Reads.Post (λ κ r x. r.now)"),
         ("reader", "new" | "moved" | "take") => format!(
             "{key}-says : {{M : Type 1}} {{𝓤 : Ura M}} (𝓛 : Logic 𝓤) (memory : _) (run : _) (κ : _) (a : _) (t : _) (e : _) → (Rattle.{krate}.specs.contracts.{}.clauses 𝓛 memory run κ a).ensures tt t e ≡ (connectives 𝓤).⌜◌⌝",
             call.name
