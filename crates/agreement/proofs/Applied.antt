@@ -8,7 +8,7 @@ use Rattle.forms.specs.Classify.{classify_of}
 use Rattle.details.specs.Why.{why_of}
 use Rattle.forms.specs.declared.Instruction.{Instruction}
 use Rattle.forms.specs.declared.Form.{Form}
-use Rattle.forms.specs.declared.Classified.TheVariants.{Modelled}
+use Rattle.std.specs.Prelude.{Some, Ok}
 use Rattle.memory.specs.Site.{site_of}
 use Rattle.lifter.specs.Apply.{apply_x87_of}
 use Rattle.lifter.specs.Lift.{lowered_of, lift_of}
@@ -36,7 +36,7 @@ module _ (s : State) (i : Instruction) (nodes statements : List ℕ) (form : For
   unfolding gives
   refused r h e = absurd (omega arith)
 
-  pub applied : classify_of i ≡ Modelled form → (lift_of s i nodes statements).val ≡ 0 → Applied s i nodes form (lift_of s i nodes statements)
+  pub applied : classify_of i ≡ Ok (Some form) → (lift_of s i nodes statements).val ≡ 0 → Applied s i nodes form (lift_of s i nodes statements)
   unfolding lowered_of
   applied e =
       by-lift (λ (b : Built). b.val ≡ 0 → Applied s i nodes form b) from i (refused 5 (omega arith)) (refused 6 (omega arith)) (refused 7 (omega arith)) (λ v w _.

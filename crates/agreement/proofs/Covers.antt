@@ -13,9 +13,9 @@ use Rattle.lists.specs.Nodes.{node_of, statement_of}
 use Rattle.texts.specs.Bytes.{all}
 use Rattle.forms.specs.declared.Instruction.{Instruction}
 use Rattle.forms.specs.declared.Effect.{Effect}
-use Rattle.forms.specs.declared.Affected.TheVariants as affected
-use Rattle.forms.specs.declared.Classified.{Classified}
-use Rattle.forms.specs.declared.Classified.TheVariants.{Modelled, Declined, BadText, BadOperands}
+use Rattle.std.specs.Prelude.{Some, None, Ok, Err}
+use Rattle.forms.specs.declared.BadInstruction.TheVariants as bad
+use Rattle.forms.specs.Classify.{Classified}
 use Rattle.forms.specs.declared.Form.{Form}
 use Rattle.forms.specs.declared.Form.TheVariants.{PushConst, PushMemory, PushSlot, StoreMemory, StoreSlot, Arith, CompareStatus, CompareFlags, ConditionalMove, StoreStatus, Exchange, Unary}
 use Rattle.forms.specs.Classify.{classify_of}
@@ -77,20 +77,23 @@ module _ (f : Effect → Bool) (g : (x y z : Bool) → f (stack_of x y z) ≡ tr
   status-alone (Exchange i) r e = absurd (false≢true (sym e ∙ g false false false))
   status-alone (Unary op) r e = absurd (false≢true (sym e ∙ g false false false))
 
-  modelled : (i : Instruction) (e : Effect) → effect_of i ≡ affected.Modelled e → f e ≡ false → classify_of i ≡ Modelled StoreStatus
+  modelled : (i : Instruction) (e : Effect) → effect_of i ≡ Ok (Some e) → f e ≡ false → classify_of i ≡ Ok (Some StoreStatus)
   unfolding effect_of
   modelled i e h z = way (classify_of i) h
     where
       never : ◌≡◌ {A = ℕ} 0 1 → ⊥
       never t = omega arith
 
-      way : (c : Classified) → affected_of c (eqb (first_of i).kind 0) ≡ affected.Modelled e → c ≡ Modelled StoreStatus
-      way (Modelled form) p =
+      made : Form → Classified
+      made form = Ok (Some form)
+
+      way : (c : Classified) → affected_of c (eqb (first_of i).kind 0) ≡ Ok (Some e) → c ≡ Ok (Some StoreStatus)
+      way (Ok (Some form)) p =
           let t : touched_of form (eqb (first_of i).kind 0) ≡ e = cc in
-          ap Modelled (status-alone form (eqb (first_of i).kind 0) (ap f t ∙ z))
-      way Declined p = let t : ◌≡◌ {A = ℕ} 0 1 = cc in absurd (never t)
-      way BadText p = let t : ◌≡◌ {A = ℕ} 0 1 = cc in absurd (never t)
-      way BadOperands p = let t : ◌≡◌ {A = ℕ} 0 1 = cc in absurd (never t)
+          ap made (status-alone form (eqb (first_of i).kind 0) (ap f t ∙ z))
+      way (Ok None) p = let t : ◌≡◌ {A = ℕ} 0 1 = cc in absurd (never t)
+      way (Err bad.Text) p = let t : ◌≡◌ {A = ℕ} 0 1 = cc in absurd (never t)
+      way (Err bad.Operands) p = let t : ◌≡◌ {A = ℕ} 0 1 = cc in absurd (never t)
 
 -- A status store keeps the stack as it is, and names the node that it adds
 status-keeps : (h : Held) (site : Site) → let d = stepped h (apply_x87_of h.st StoreStatus site) in KeepsStack h d
@@ -112,7 +115,7 @@ keeps_self h r = record { depth = omega arith; places = λ p k. refl; below = λ
     none : (j : ℕ) → h.st.depth ≤ j → j < h.st.depth → ⊥
     none j x y = omega arith
 
-call-keeps : (h : Held) (i : Instruction) (e : Effect) → effect_of i ≡ affected.Modelled e → e.defines_stack ≡ false → KeepsStack h (called h i)
+call-keeps : (h : Held) (i : Instruction) (e : Effect) → effect_of i ≡ Ok (Some e) → e.defines_stack ≡ false → KeepsStack h (called h i)
 unfolding lowered_of
 call-keeps h i e m z =
     let c = modelled (λ (x : Effect). x.defines_stack) (λ x y z. refl) i e m z in
@@ -138,7 +141,7 @@ status-anew h site = way site.register
     way true = (refl, rw self)
     way false = (refl, rw self)
 
-call-anew : (h : Held) (i : Instruction) (e : Effect) → effect_of i ≡ affected.Modelled e → e.uses_stack ≡ false → Anew h (called h i)
+call-anew : (h : Held) (i : Instruction) (e : Effect) → effect_of i ≡ Ok (Some e) → e.uses_stack ≡ false → Anew h (called h i)
 unfolding stepped gives lowered_of no_operands names_from operands_of Each
 call-anew h i e m z =
     let c = modelled (λ (x : Effect). x.uses_stack) (λ x y z. refl) i e m z in

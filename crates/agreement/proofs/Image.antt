@@ -11,7 +11,8 @@ use Rattle.lists.specs.Steps.{Built, ◌▸◌}
 use Rattle.lists.specs.Stack.{fresh, havoc_of, read_of}
 use Rattle.words.specs.Tests.{and_r}
 use Rattle.forms.specs.Classify.{classify_of}
-use Rattle.forms.specs.declared.Classified.TheVariants.{Modelled}
+use Rattle.std.specs.Prelude.{Some, None, Ok, Err}
+use Rattle.forms.specs.declared.BadInstruction.TheVariants as bad
 use Rattle.forms.specs.declared.Form.TheVariants.{PushMemory, StoreMemory}
 use Rattle.forms.specs.declared.Instruction.{Instruction}
 use Rattle.forms.specs.declared.MemFormat.TheVariants.{Float}
@@ -45,7 +46,7 @@ pub mod Steps
 pub mod Lifts
 
 -- A store to memory has no register for its operand
-stores-to-memory : (i : Instruction) (w : ℕ) (pop : Bool) (r : RoundingMode) → classify_of i ≡ Modelled (StoreMemory w Float pop r) → (site_of i).register ≡ false
+stores-to-memory : (i : Instruction) (w : ℕ) (pop : Bool) (r : RoundingMode) → classify_of i ≡ Ok (Some (StoreMemory w Float pop r)) → (site_of i).register ≡ false
 unfolding form_fits
 stores-to-memory i w pop r e = no_register (first_of i) w (and_r (memory_fits w Float) (is_memory (first_of i) w) (classify-fits i (StoreMemory w Float pop r) e))
 
@@ -77,7 +78,7 @@ module _ (nodes statements : List ℕ) (is : List Instruction) (i : Instruction)
 
   module _ (g : List ℕ) (answers : lift.val ≡ 0) (fits : GivenFits words g lift.st.nodes) where
     -- The load
-    pub fld-80-run : classify_of i ≡ Modelled (PushMemory 80 Float) → Loads before.st i lift words g
+    pub fld-80-run : classify_of i ≡ Ok (Some (PushMemory 80 Float)) → Loads before.st i lift words g
     unfolding apply_x87_of push_memory_of ◌▸◌ sort_at
     fld-80-run c =
         let n = before.st.nodes in
@@ -90,7 +91,7 @@ module _ (nodes statements : List ℕ) (is : List Instruction) (i : Instruction)
         fld-80 before.st i before.nodes before.statements g c answers k
 
     -- The store
-    pub fstp-80-run : (pop : Bool) (r : RoundingMode) → classify_of i ≡ Modelled (StoreMemory 80 Float pop r) → Stores before.st i lift words g
+    pub fstp-80-run : (pop : Bool) (r : RoundingMode) → classify_of i ≡ Ok (Some (StoreMemory 80 Float pop r)) → Stores before.st i lift words g
     unfolding apply_x87_of ◌▸◌ sort_row
     fstp-80-run pop r c =
         let n = before.st.nodes in

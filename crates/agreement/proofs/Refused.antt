@@ -5,8 +5,9 @@ use Rattle.std.proofs.lemmas.Bool.{false≢true}
 use Rattle.lists.specs.Rows.{wrote}
 use Rattle.lists.specs.Steps.{Built, ◌▸◌, gives}
 use Rattle.forms.specs.declared.Instruction.{Instruction}
-use Rattle.forms.specs.declared.Classified.{Classified}
-use Rattle.forms.specs.declared.Classified.TheVariants.{Modelled, Declined, BadText, BadOperands}
+use Rattle.forms.specs.Classify.{Classified}
+use Rattle.std.specs.Prelude.{Some, None, Ok, Err}
+use Rattle.forms.specs.declared.BadInstruction.TheVariants as bad
 use Rattle.forms.specs.Classify.{classify_of}
 use Rattle.details.specs.Why.{why_of}
 use Rattle.memory.specs.declared.Site.{Site}
@@ -30,10 +31,10 @@ never e h = let z : ◌≡◌ {A = Bool} false true = cc in absurd (false≢true
 
 lowered-leaves : (h : Held) (c : Classified) (detail : ℕ) (site : Site) → Leaves h (lowered_of h.st c detail site)
 unfolding lowered_of decline_x87_of gives ◌▸◌
-lowered-leaves h (Modelled form) detail site = never (apply-answers (λ (n : ℕ). leb n 2) refl refl h.st form site)
-lowered-leaves h Declined detail site = never refl
-lowered-leaves h BadText detail site = gives-leaves h 3
-lowered-leaves h BadOperands detail site = gives-leaves h 4
+lowered-leaves h (Ok (Some form)) detail site = never (apply-answers (λ (n : ℕ). leb n 2) refl refl h.st form site)
+lowered-leaves h (Ok None) detail site = never refl
+lowered-leaves h (Err bad.Text) detail site = gives-leaves h 3
+lowered-leaves h (Err bad.Operands) detail site = gives-leaves h 4
 
 pub refused : (h : Held) (i : Instruction) → leb (answered h i) 2 ≡ false → called h i ≡ h
 unfolding called

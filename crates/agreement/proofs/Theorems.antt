@@ -7,7 +7,7 @@ use Rattle.forms.specs.declared.Instruction.{Instruction}
 use Rattle.forms.specs.declared.Form.TheVariants.{PushMemory, StoreMemory}
 use Rattle.forms.specs.declared.MemFormat.TheVariants.{Float}
 use Rattle.forms.specs.declared.RoundingMode.{RoundingMode}
-use Rattle.forms.specs.declared.Classified.TheVariants.{Modelled, Declined}
+use Rattle.std.specs.Prelude.{Some, None, Ok}
 use Rattle.forms.specs.Classify.{classify_of}
 use Rattle.forms.specs.Numbers.{number_of}
 use Rattle.details.specs.Why.{why_of, detail_of}
@@ -75,13 +75,13 @@ theorem-2 = evaluated
 -- 3 `fld` AND `fstp` AT 80 BITS ARE WORTH WHAT THE IMAGE CALLS ANSWER: in any run, for any given values that fit, where the call answers 0
 pub theorem-3-load : (nodes statements : List ℕ) (is : List Instruction) (i : Instruction) (g : List ℕ) → let h = ran (begun nodes statements) is in
     let d = lift_of h.st i h.nodes h.statements in
-    d.val ≡ 0 → GivenFits (wrote h.nodes d.ns) g d.st.nodes → classify_of i ≡ Modelled (PushMemory 80 Float)
+    d.val ≡ 0 → GivenFits (wrote h.nodes d.ns) g d.st.nodes → classify_of i ≡ Ok (Some (PushMemory 80 Float))
     → Loads h.st i d (wrote h.nodes d.ns) g
 theorem-3-load = fld-80-run
 
 pub theorem-3-store : (nodes statements : List ℕ) (is : List Instruction) (i : Instruction) (g : List ℕ) → let h = ran (begun nodes statements) is in
     let d = lift_of h.st i h.nodes h.statements in
-    d.val ≡ 0 → GivenFits (wrote h.nodes d.ns) g d.st.nodes → (pop : Bool) (r : RoundingMode) → classify_of i ≡ Modelled (StoreMemory 80 Float pop r)
+    d.val ≡ 0 → GivenFits (wrote h.nodes d.ns) g d.st.nodes → (pop : Bool) (r : RoundingMode) → classify_of i ≡ Ok (Some (StoreMemory 80 Float pop r))
     → Stores h.st i d (wrote h.nodes d.ns) g
 theorem-3-store = fstp-80-run
 
@@ -153,10 +153,10 @@ theorem-14-record = step-beside
 
 -- 15 NO DECLINE IS WITHOUT A REASON, AND NO MODELLED INSTRUCTION HAS ONE: of an instruction that is refused neither with 3 nor with 4, `classify` declines exactly if
 -- one of the five reasons holds, and the detail is the first of them; the statement of the decline says the detail that the call gives
-pub theorem-15 : (i : Instruction) → classify_of i ≡ Declined → Because i (why_of i)
+pub theorem-15 : (i : Instruction) → classify_of i ≡ Ok None → Because i (why_of i)
 theorem-15 = declines-so
 
-pub theorem-15-only : (i : Instruction) → leb (number_of (classify_of i)) 1 ≡ true → (k : ℕ) → Because i k → (classify_of i ≡ Declined) × (why_of i ≡ k)
+pub theorem-15-only : (i : Instruction) → leb (number_of (classify_of i)) 1 ≡ true → (k : ℕ) → Because i k → (classify_of i ≡ Ok None) × (why_of i ≡ k)
 theorem-15-only = declines-only
 
 pub theorem-15-said : (h : Held) (i : Instruction) → answered h i ≡ 1

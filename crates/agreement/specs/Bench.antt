@@ -12,7 +12,7 @@ use Rattle.forms.specs.Names.{names, family_of}
 use Rattle.forms.specs.Families.{form_of}
 use Rattle.forms.specs.Classify.{classify_of}
 use Rattle.details.specs.Takes as takes
-use Rattle.details.specs.Why.{kind_off, address_off, width_off, unknown_name, wrong_count, wrong_kind, unknown_address, wrong_width, why_of}
+use Rattle.details.specs.Why.{kind_off, address_off, width_off, unknown_name, wrong_count, wrong_kind, unknown_address, wrong_width, reason_of, why_of}
 use Rattle.lists.specs.Rows.{Row, row, stored, wrote, up, room_of}
 use Rattle.lists.specs.Steps.{Built, ◌▸◌, gives}
 use Rattle.lists.specs.Nodes.{node_of, statement_of, input_counted, temporary_counted, fresh_of, temporary_of}
@@ -47,7 +47,7 @@ unfoldable pub after : List Instruction → Held
 after is = ran (begun (replicate 256 0) (replicate 64 0)) is
 
 unfoldable pub lifted : List Instruction → Instruction → Built
-unfolding after ran called stepped lift_of fitting_of lowered_of valid_of all_sound sound_of room_of up stored wrote ◌▸◌ gives node_of statement_of input_counted temporary_counted fresh_of temporary_of classify_of form_of family_of names ranged_is spelled_is slot_of width_of texts.valid_of trim_of cut place_of why_of unknown_name wrong_count wrong_kind unknown_address wrong_width kind_off address_off width_off takes.table apply_x87_of decline_x87_of land_of push_const_of push_slot_of push_memory_of dropped_times dropped_if ordered_of x87_arith_of x87_compare_status_of x87_compare_flags_of variable_of read_operand_lowered_of image_read_of converted_of x87_memory_read_of source_of write_dst_of top_of x87_store_memory_of is_image arith_kind_of extended_from_memory_of narrowed_of from_slot_of extended_arith_of unordered_of x87_status_word_of stack.havoc_of stack.grown stack.bottom_of stack.lowered stack.ensure_of stack.slot_of stack.kept stack.read_of stack.write_of stack.overflows stack.push_of stack.drop_top_of stack.pop_of
+unfolding after ran called stepped lift_of fitting_of lowered_of valid_of all_sound sound_of room_of up stored wrote ◌▸◌ gives node_of statement_of input_counted temporary_counted fresh_of temporary_of classify_of form_of family_of names ranged_is spelled_is slot_of width_of texts.valid_of trim_of cut place_of why_of reason_of unknown_name wrong_count wrong_kind unknown_address wrong_width kind_off address_off width_off takes.table apply_x87_of decline_x87_of land_of push_const_of push_slot_of push_memory_of dropped_times dropped_if ordered_of x87_arith_of x87_compare_status_of x87_compare_flags_of variable_of read_operand_lowered_of image_read_of converted_of x87_memory_read_of source_of write_dst_of top_of x87_store_memory_of is_image arith_kind_of extended_from_memory_of narrowed_of from_slot_of extended_arith_of unordered_of x87_status_word_of stack.havoc_of stack.grown stack.bottom_of stack.lowered stack.ensure_of stack.slot_of stack.kept stack.read_of stack.write_of stack.overflows stack.push_of stack.drop_top_of stack.pop_of
 lifted before i = let h = after before in lift_of h.st i h.nodes h.statements
 
 -- The figures of a lift: its answer, the state's depth, inputs and temporaries, and how many nodes and statements it adds

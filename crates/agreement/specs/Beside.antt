@@ -8,10 +8,9 @@ use Rattle.texts.specs.Bytes.{all}
 use Rattle.forms.specs.Classify.{classify_of}
 use Rattle.forms.specs.Effects.{effect_of}
 use Rattle.forms.specs.Numbers.{number_of, fields_of, effect_number, effect_fields}
-use Rattle.forms.specs.declared.Classified.{Classified}
-use Rattle.forms.specs.declared.Classified.TheVariants as classified-as
-use Rattle.forms.specs.declared.Affected.{Affected}
-use Rattle.forms.specs.declared.Affected.TheVariants as affected-as
+use Rattle.forms.specs.Classify.{Classified}
+use Rattle.forms.specs.declared.BadInstruction.TheVariants as bad
+use Rattle.forms.specs.Effects.{Affected}
 use Rattle.forms.specs.declared.Instruction.{Instruction}
 use Rattle.records.specs.Reading as records
 use Rattle.image.specs.Answers.{read_of}
@@ -50,16 +49,16 @@ zeros k h = refl
 
 -- CLASSIFY AND EFFECT
 form-zeros : (c : Classified) → Zeros 8 (record { number = number_of c; words = fields_of c })
-form-zeros (classified-as.Modelled f) h = absurd (h refl)
-form-zeros classified-as.Declined h = refl
-form-zeros classified-as.BadText h = refl
-form-zeros classified-as.BadOperands h = refl
+form-zeros (Ok (Some f)) h = absurd (h refl)
+form-zeros (Ok None) h = refl
+form-zeros (Err bad.Text) h = refl
+form-zeros (Err bad.Operands) h = refl
 
 effect-zeros : (a : Affected) → Zeros 7 (record { number = effect_number a; words = effect_fields a })
-effect-zeros (affected-as.Modelled e) h = absurd (h refl)
-effect-zeros affected-as.Declined h = refl
-effect-zeros affected-as.BadText h = refl
-effect-zeros affected-as.BadOperands h = refl
+effect-zeros (Ok (Some e)) h = absurd (h refl)
+effect-zeros (Ok None) h = refl
+effect-zeros (Err bad.Text) h = refl
+effect-zeros (Err bad.Operands) h = refl
 
 pub classify-beside : (flat : List ℕ) → Zeros 8 (classified flat)
 unfolding classified

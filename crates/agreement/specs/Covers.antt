@@ -3,7 +3,7 @@ use Rattle.std.proofs.Math.Path.{◌≡◌}
 use Rattle.std.specs.Prelude.{true, false, ℕ, ◌≤◌, ◌<◌, get_or}
 use Rattle.forms.specs.declared.Instruction.{Instruction}
 use Rattle.forms.specs.declared.Effect.{Effect}
-use Rattle.forms.specs.declared.Affected.TheVariants as affected
+use Rattle.std.specs.Prelude.{Some, Ok}
 use Rattle.forms.specs.Effects.{effect_of}
 use Rattle.agreement.specs.Runs.{Held, called}
 use Rattle.agreement.specs.Demands.{kind_at, named_at}
@@ -32,5 +32,5 @@ pub record Covers (e : Effect) (h d : Held) : Type 0 where
 -- THE THEOREM'S PARTS, for the call on i from h
 pub record EffectHolds (i : Instruction) (h : Held) : Type 0 where
   pub rows : Covers (effect_said (effect_of i)) h (called h i)
-  pub stack : (e : Effect) → effect_of i ≡ affected.Modelled e → e.defines_stack ≡ false → KeepsStack h (called h i)
-  pub anew : (e : Effect) → effect_of i ≡ affected.Modelled e → e.uses_stack ≡ false → Anew h (called h i)
+  pub stack : (e : Effect) → effect_of i ≡ Ok (Some e) → e.defines_stack ≡ false → KeepsStack h (called h i)
+  pub anew : (e : Effect) → effect_of i ≡ Ok (Some e) → e.uses_stack ≡ false → Anew h (called h i)

@@ -218,11 +218,11 @@ texts·eq-ignore-ascii-case κ a r s x y = one
 pub texts·slot-index : Determined Rattle.texts.proofs.slot_index.Reads.Post
 texts·slot-index κ a r s x y = one
 
-pub texts·slot-index-text : Determined Rattle.texts.proofs.slot_index_text.Reads.Post
-texts·slot-index-text κ a r s x y = one
+pub texts·as-bytes : Fixes Rattle.texts.proofs.Text.as_bytes.Reads.Post (λ κ r x. r.now)
+texts·as-bytes κ a r s x y = one
 
-pub texts·valid : Determined Rattle.texts.proofs.valid.Reads.Post
-texts·valid κ a r s x y = one
+pub texts·is-valid : Determined Rattle.texts.proofs.Text.is_valid.Reads.Post
+texts·is-valid κ a r s x y = one
 
 -- words
 
@@ -268,6 +268,9 @@ details·why κ a r s x y = one
 
 pub details·detail : Determined Rattle.details.proofs.detail.Reads.Post
 details·detail κ a r s x y = one
+
+pub details·number : Determined Rattle.details.proofs.number.Reads.Post
+details·number κ a r s x y = one
 
 pub details·beside : Determined Rattle.details.proofs.beside.Reads.Post
 details·beside κ a r s x y = one

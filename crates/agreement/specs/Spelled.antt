@@ -13,7 +13,7 @@ use Rattle.forms.specs.declared.Instruction.{Instruction}
 use Rattle.forms.specs.declared.Form.TheVariants.{PushMemory, StoreMemory}
 use Rattle.forms.specs.declared.MemFormat.TheVariants.{Float}
 use Rattle.forms.specs.declared.RoundingMode.TheVariants.{NearestTiesEven}
-use Rattle.forms.specs.declared.Classified.TheVariants.{Modelled}
+use Rattle.std.specs.Prelude.{Some, Ok}
 use Rattle.records.specs.Format.{text_of, register, memory, absent}
 
 abbrev text : str.String → Text
@@ -41,10 +41,10 @@ abbrev pub bits : str.String → ℕ → Instruction
 bits m width = in_memory m width 7 0
 
 -- `fld` and `fstp` at 80, wherever their memory is
-pub fld-80-is : (address slot : ℕ) → classify_of (in_memory "fld" 80 address slot) ≡ Modelled (PushMemory 80 Float)
+pub fld-80-is : (address slot : ℕ) → classify_of (in_memory "fld" 80 address slot) ≡ Ok (Some (PushMemory 80 Float))
 unfolding classify_of form_of family_of names ranged_is spelled_is slot_of width_of valid_of trim_of cut
 fld-80-is address slot = refl
 
-pub fstp-80-is : (address slot : ℕ) → classify_of (in_memory "fstp" 80 address slot) ≡ Modelled (StoreMemory 80 Float true NearestTiesEven)
+pub fstp-80-is : (address slot : ℕ) → classify_of (in_memory "fstp" 80 address slot) ≡ Ok (Some (StoreMemory 80 Float true NearestTiesEven))
 unfolding classify_of form_of family_of names ranged_is spelled_is slot_of width_of valid_of trim_of cut
 fstp-80-is address slot = refl

@@ -9,8 +9,8 @@ ghost use Rattle.std.specs.Prelude.{◌≡◌, [], ◌∷◌};
 ghost use Rattle.forms.specs.Numbers as forms;
 
 use forms::{
-    Affected, ArithSrc, Classified, Effect, Form, MemFormat, RoundingMode, UnaryOp, X87Arith,
-    X87Condition,
+    Affected, ArithSrc, BadInstruction, Classified, Effect, Form, MemFormat, RoundingMode, UnaryOp,
+    X87Arith, X87Condition,
 };
 
 pub fn bit(b: bool) -> u64
@@ -175,10 +175,10 @@ pub fn number(c: Classified) -> u32
     ensures { result ≡ forms.number_of c }
 {
     match c {
-        Classified::Modelled(_) => 0,
-        Classified::Declined => 1,
-        Classified::BadText => 3,
-        Classified::BadOperands => 4,
+        Ok(Some(_)) => 0,
+        Ok(None) => 1,
+        Err(BadInstruction::Text) => 3,
+        Err(BadInstruction::Operands) => 4,
     }
 }
 
@@ -186,10 +186,9 @@ pub fn fields(c: Classified) -> [u64; 8]
     ensures { result ≡ forms.fields_of c }
 {
     match c {
-        Classified::Modelled(f) => words(f),
-        Classified::Declined => [0u64; 8],
-        Classified::BadText => [0u64; 8],
-        Classified::BadOperands => [0u64; 8],
+        Ok(Some(f)) => words(f),
+        Ok(None) => [0; 8],
+        Err(_) => [0; 8],
     }
 }
 
@@ -197,10 +196,10 @@ pub fn effect_number(a: Affected) -> u32
     ensures { result ≡ forms.effect_number a }
 {
     match a {
-        Affected::Modelled(_) => 0,
-        Affected::Declined => 1,
-        Affected::BadText => 3,
-        Affected::BadOperands => 4,
+        Ok(Some(_)) => 0,
+        Ok(None) => 1,
+        Err(BadInstruction::Text) => 3,
+        Err(BadInstruction::Operands) => 4,
     }
 }
 
@@ -223,9 +222,8 @@ pub fn effect_fields(a: Affected) -> [u64; 7]
     ensures { result ≡ forms.effect_fields a }
 {
     match a {
-        Affected::Modelled(e) => flags(e),
-        Affected::Declined => [0u64; 7],
-        Affected::BadText => [0u64; 7],
-        Affected::BadOperands => [0u64; 7],
+        Ok(Some(e)) => flags(e),
+        Ok(None) => [0; 7],
+        Err(_) => [0; 7],
     }
 }

@@ -1,14 +1,13 @@
 -- Why an instruction is declined: five reasons, each on its own, over the table of what each name takes (Takes).
-use Rattle.std.specs.Prelude.{Bool, true, false, cond, not, ◌&&◌, ◌||◌, List, [], ◌∷◌, ℕ, ◌+◌, eqb, length, get_or}
+use Rattle.std.specs.Prelude.{Bool, true, false, cond, not, ◌&&◌, ◌||◌, List, [], ◌∷◌, ℕ, ◌+◌, eqb, length, get_or, Option, Some, None, Ok, Err}
 use Rattle.texts.specs.Bytes.{bytes_of}
 use Rattle.texts.specs.Letters.{trim_of, same_letters}
 use Rattle.texts.specs.Places.{place_of}
-use Rattle.texts.specs.declared.Place.{Place}
-use Rattle.texts.specs.declared.Place.TheVariants.{At, Nowhere}
 use Rattle.forms.specs.declared.Operand.{Operand}
 use Rattle.forms.specs.declared.Instruction.{Instruction}
-use Rattle.forms.specs.declared.Classified.{Classified}
-use Rattle.forms.specs.declared.Classified.TheVariants.{Modelled, Declined, BadText, BadOperands}
+use Rattle.forms.specs.Classify.{Classified}
+use Rattle.details.specs.declared.Reason.{Reason}
+use Rattle.details.specs.declared.Reason.TheVariants.{UnknownName, WrongCount, WrongKind, UnknownAddress, WrongWidth}
 use Rattle.forms.specs.Operands.{ax_of, among, no_operand}
 use Rattle.details.specs.Takes.{Registers, no_register, places, st0-alone, ax-alone, Takes, anything, only, Row, table}
 
@@ -40,13 +39,13 @@ abbrev pub lists_of : Instruction → List (List Takes)
 lists_of i = lists_in (spelled_by i) table
 
 -- a place; the place 0
-abbrev pub place_is : Place → Bool
-place_is (At k) = true
-place_is Nowhere = false
+abbrev pub place_is : Option ℕ → Bool
+place_is (Some k) = true
+place_is None = false
 
-abbrev pub top_is : Place → Bool
-top_is (At k) = eqb k 0
-top_is Nowhere = false
+abbrev pub top_is : Option ℕ → Bool
+top_is (Some k) = eqb k 0
+top_is None = false
 
 -- a register of this text is one of these
 abbrev pub register_is : Registers → List ℕ → Bool
@@ -104,22 +103,36 @@ unknown_address i = operand_off address_off i
 unfoldable pub wrong_width : Instruction → Bool
 wrong_width i = operand_off width_off i
 
--- THE DETAIL OF A DECLINE is the first that holds, in rising order; 0 where none does
-unfoldable pub why_of : Instruction → ℕ
-why_of i =
-    cond (unknown_name i) 21
-    (cond (wrong_count i) 22
-    (cond (wrong_kind i) 23
-    (cond (unknown_address i) 24
-    (cond (wrong_width i) 25
-    0))))
+-- THE DETAIL OF A DECLINE is the first that holds, in rising order; none where none does
+unfoldable pub reason_of : Instruction → Option Reason
+reason_of i =
+    cond (unknown_name i) (Some UnknownName)
+    (cond (wrong_count i) (Some WrongCount)
+    (cond (wrong_kind i) (Some WrongKind)
+    (cond (unknown_address i) (Some UnknownAddress)
+    (cond (wrong_width i) (Some WrongWidth)
+    None))))
 
--- THE DETAIL BESIDE AN ANSWER OF `classify`: that of a decline, and 0 of any other
+-- its number, or 0
+abbrev pub detail_number : Option Reason → ℕ
+detail_number None = 0
+detail_number (Some UnknownName) = 21
+detail_number (Some WrongCount) = 22
+detail_number (Some WrongKind) = 23
+detail_number (Some UnknownAddress) = 24
+detail_number (Some WrongWidth) = 25
+
+unfoldable pub why_of : Instruction → ℕ
+why_of i = detail_number (reason_of i)
+
+-- THE DETAIL BESIDE AN ANSWER OF `classify`: that of a decline, and none of any other
+unfoldable pub reason_for : Classified → Instruction → Option Reason
+reason_for (Ok (Some form)) i = None
+reason_for (Ok None) i = reason_of i
+reason_for (Err e) i = None
+
 unfoldable pub detail_for : Classified → Instruction → ℕ
-detail_for (Modelled form) i = 0
-detail_for Declined i = why_of i
-detail_for BadText i = 0
-detail_for BadOperands i = 0
+detail_for c i = detail_number (reason_for c i)
 
 -- a detail stands beside answer 1 alone
 abbrev pub beside_of : ℕ → ℕ → ℕ

@@ -1,191 +1,152 @@
 // Why an instruction is declined: the detail that a decline with answer 1 has beside it.
 #![tactic(auto)]
 
-ghost use Rattle.std.specs.Prelude.{◌≡◌, take};
+ghost use Rattle.std.specs.Prelude.{◌≡◌, length, Some};
 ghost use Rattle.forms.specs.Operands.{widths_of};
 ghost use Rattle.details.specs.Takes as takes;
-ghost use Rattle.details.specs.Why.{why_of, detail_for, beside_of};
-ghost use Rattle.details.specs.Inside.{why_one, memory_why, both_of, alone_of, why_only, why_pair, why_by};
+ghost use Rattle.details.specs.Why.{reason_of, reason_for, detail_number, beside_of};
+ghost use Rattle.details.specs.Inside.{why_one, why_only, why_pair, why_by};
 
-use forms::{Classified, Instruction, One, Operand, Shape, Two, Widths};
-use texts::Place;
+use forms::{Classified, Instruction, One, Operand, Shape, Two, Widths, families};
 
-// The details, in the order in which they are tested.
-const UNKNOWN_NAME: u32 = 21;
-
-const WRONG_COUNT: u32 = 22;
-
-const WRONG_KIND: u32 = 23;
-
-const UNKNOWN_ADDRESS: u32 = 24;
-
-const WRONG_WIDTH: u32 = 25;
+// The reasons, in the order in which they are tested, with the numbers of their details.
+#[derive(Clone, Copy)]
+pub enum Reason {
+    UnknownName = 21,
+    WrongCount = 22,
+    WrongKind = 23,
+    UnknownAddress = 24,
+    WrongWidth = 25,
+}
 
 // A place is taken.
-fn place(o: Operand) -> u32
-    ensures { result ≡ why_one takes.place o }
+fn place(o: &Operand) -> Option<Reason>
+    ensures { result ≡ why_one takes.place o.now }
 {
-    let Place::At(_) = forms::families::slot_index(o) else {
-        return WRONG_KIND;
-    };
-    0
+    match families::slot_index(o) {
+        Some(_) => None,
+        None => Some(Reason::WrongKind),
+    }
 }
 
 // The place 0 alone is taken.
-fn top(o: Operand) -> u32
-    ensures { result ≡ why_one takes.st0 o }
+fn top(o: &Operand) -> Option<Reason>
+    ensures { result ≡ why_one takes.st0 o.now }
 {
-    let Place::At(index) = forms::families::slot_index(o) else {
-        return WRONG_KIND;
-    };
-    if index == 0 {
-        return 0;
+    match families::slot_index(o) {
+        Some(index) => (index != 0).then_some(Reason::WrongKind),
+        None => Some(Reason::WrongKind),
     }
-    WRONG_KIND
 }
 
-// Memory, where it is taken: the address comes before the width.
-fn memory_detail(known: bool, taken: bool) -> u32
-    ensures { result ≡ memory_why known taken }
+// Memory of a table's widths is taken: the address comes before the width.
+fn memory(o: &Operand, widths: Widths) -> Option<Reason>
+    ensures { result ≡ why_one (takes.memory (widths_of widths)) o.now }
 {
-    if known {
-        if taken {
-            return 0;
-        }
-        return WRONG_WIDTH;
+    if o.kind != 1 {
+        return Some(Reason::WrongKind);
     }
-    UNKNOWN_ADDRESS
-}
-
-// Memory of a table's widths is taken.
-fn memory(o: Operand, widths: Widths) -> u32
-    ensures { result ≡ why_one (takes.memory (widths_of widths)) o }
-{
-    if o.kind == 1 {
-        return memory_detail(o.known == 1, forms::families::takes(widths, o.width));
+    if o.known != 1 {
+        return Some(Reason::UnknownAddress);
     }
-    WRONG_KIND
+    if !families::takes(widths, o.width) {
+        return Some(Reason::WrongWidth);
+    }
+    None
 }
 
 // A place is taken, or memory.
-fn place_or(o: Operand, widths: Widths) -> u32
-    ensures { result ≡ why_one (takes.place-or (widths_of widths)) o }
+fn place_or(o: &Operand, widths: Widths) -> Option<Reason>
+    ensures { result ≡ why_one (takes.place-or (widths_of widths)) o.now }
 {
     if o.kind == 0 {
-        return place(o);
+        place(o)
+    } else {
+        memory(o, widths)
     }
-    memory(o, widths)
-}
-
-// The first `n` bytes, or all where there are fewer.
-fn first(s: &[u8], n: usize) -> &[u8]
-    ensures { result.now ≡ take n s.now }
-{
-    if n <= s.len() {
-        return &s[..n];
-    }
-    s
 }
 
 // The register `ax` is taken, or memory.
-fn ax_or(o: Operand, widths: Widths) -> u32
-    ensures { result ≡ why_one (takes.ax-or (widths_of widths)) o }
+fn ax_or(o: &Operand, widths: Widths) -> Option<Reason>
+    ensures { result ≡ why_one (takes.ax-or (widths_of widths)) o.now }
 {
-    if o.kind == 0 {
-        let t = o.text;
-        let b = t.bytes;
-        if forms::families::ax(first(&b, t.len)) {
-            return 0;
-        }
-        return WRONG_KIND;
+    if o.kind != 0 {
+        return memory(o, widths);
     }
-    memory(o, widths)
-}
-
-// A number of operands that is taken, or not.
-fn counted(there: bool) -> u32
-    ensures { result ≡ alone_of there }
-{
-    if there { 0 } else { WRONG_COUNT }
+    if families::ax(o.text.as_bytes()) {
+        return None;
+    }
+    Some(Reason::WrongKind)
 }
 
 // A name with one operand.
-fn only(one: One, o: Operand) -> u32
-    ensures { result ≡ why_only one o }
+fn only(one: Option<One>, o: &Operand) -> Option<Reason>
+    ensures { result ≡ why_only one o.now }
 {
     match one {
-        One::Nothing => WRONG_COUNT,
-        One::Place => place(o),
-        One::PlaceOr(widths) => place_or(o, widths),
-        One::Memory(widths) => memory(o, widths),
-        One::AxOr(widths) => ax_or(o, widths),
+        None => Some(Reason::WrongCount),
+        Some(One::Place) => place(o),
+        Some(One::PlaceOr(widths)) => place_or(o, widths),
+        Some(One::Memory(widths)) => memory(o, widths),
+        Some(One::AxOr(widths)) => ax_or(o, widths),
     }
 }
 
-// The detail of two operands of which neither may be memory: the first that has one.
-fn both(a: u32, b: u32) -> u32
-    ensures { result ≡ both_of a b }
-{
-    if a == 0 {
-        return b;
-    }
-    a
-}
-
-// A name with two operands.
-fn pair(two: Two, a: Operand, b: Operand) -> u32
-    ensures { result ≡ why_pair two a b }
+// A name with two operands, neither of which may be memory: the first detail that one of them has.
+fn pair(two: Option<Two>, a: &Operand, b: &Operand) -> Option<Reason>
+    ensures { result ≡ why_pair two a.now b.now }
 {
     match two {
-        Two::Nothing => WRONG_COUNT,
-        Two::Second => place(b),
-        Two::TopAnd => both(top(a), place(b)),
-        Two::Places => both(place(a), place(b)),
+        None => Some(Reason::WrongCount),
+        Some(Two::Second) => place(b),
+        Some(Two::TopAnd) => top(a).or(place(b)),
+        Some(Two::Places) => place(a).or(place(b)),
     }
 }
 
-// A name of this shape with so many of these operands.
-fn among(shape: Shape, ops: [Operand; 3], count: usize) -> u32
-    ensures { result ≡ why_by shape count ops }
+// A name of this shape with these operands.
+fn among(shape: Shape, operands: &[Operand]) -> Option<Reason>
+    ensures { result ≡ why_by (Some shape) (length operands.now) operands.now }
 {
-    let one = shape.one;
-    let two = shape.two;
-    let a = ops[0];
-    let b = ops[1];
-    if shape.known {
-        if count == 0 {
-            return counted(shape.alone);
-        }
-        if count == 1 {
-            return only(one, a);
-        }
-        if count == 2 {
-            return pair(two, a, b);
-        }
-        return WRONG_COUNT;
+    match operands {
+        [] if shape.alone => None,
+        [o] => only(shape.one, o),
+        [a, b] => pair(shape.two, a, b),
+        _ => Some(Reason::WrongCount),
     }
-    UNKNOWN_NAME
 }
 
-// The detail of an instruction: the first that holds of 21 unknown name, 22 wrong number of operands, 23 an operand of the wrong kind, 24 address unknown, 25 width not taken; 0 where none does.
-pub fn why(insn: Instruction) -> u32
-    ensures { result ≡ why_of insn }
+// The reason of an instruction: the first that holds, or none where none does.
+pub fn why(insn: &Instruction) -> Option<Reason>
+    ensures { result ≡ reason_of insn.now }
 {
-    let ops = insn.operands;
-    let m = insn.mnemonic;
-    let b = m.bytes;
-    among(forms::names::shape(first(&b, m.len)), ops, insn.count)
+    let Some(shape) = forms::names::shape(insn.mnemonic.as_bytes()) else {
+        return Some(Reason::UnknownName);
+    };
+    let Some(operands) = insn.operands.get(..insn.count) else {
+        return Some(Reason::WrongCount);
+    };
+    among(shape, operands)
 }
 
-// The detail beside an answer of `classify`: that of a decline, and 0 of any other. Only after a decline it is worked out.
-pub fn detail(classified: Classified, insn: Instruction) -> u32
-    ensures { result ≡ detail_for classified insn }
+// The detail beside an answer of `classify`: that of a decline, and none of any other. Only after a decline it is worked out.
+pub fn detail(classified: Classified, insn: &Instruction) -> Option<Reason>
+    ensures { result ≡ reason_for classified insn.now }
 {
     match classified {
-        Classified::Modelled(_) => 0,
-        Classified::Declined => why(insn),
-        Classified::BadText => 0,
-        Classified::BadOperands => 0,
+        Ok(None) => why(insn),
+        Ok(Some(_)) => None,
+        Err(_) => None,
+    }
+}
+
+// A detail's number, or 0.
+pub fn number(detail: Option<Reason>) -> u32
+    ensures { result ≡ detail_number detail }
+{
+    match detail {
+        Some(detail) => detail as u32,
+        None => 0,
     }
 }
 
@@ -193,8 +154,5 @@ pub fn detail(classified: Classified, insn: Instruction) -> u32
 pub fn beside(answer: u32, detail: u32) -> u32
     ensures { result ≡ beside_of answer detail }
 {
-    if answer == 1 {
-        return detail;
-    }
-    0
+    if answer == 1 { detail } else { 0 }
 }

@@ -2,3 +2,4 @@ pub mod Places
 pub mod Calls
 pub mod Texts
 pub mod Lifting
+mod Every

@@ -15,7 +15,7 @@ use Rattle.records.specs.Format.{taken_at}
 use Rattle.records.specs.Numbers.{refusal_of}
 use Rattle.records.specs.Reading.{Reading, got, bad, reading}
 use Rattle.records.specs.declared.Refusal.{Refusal}
-use Rattle.forms.specs.declared.Classified.{Classified}
+use Rattle.forms.specs.Classify.{Classified}
 use Rattle.forms.specs.Classify.{classify_of}
 use Rattle.lists.specs.Steps.{Built, Does}
 use Rattle.memory.specs.declared.Site.{Site}

@@ -5,7 +5,7 @@ use Rattle.lists.specs.Rows.{wrote}
 use Rattle.lists.specs.Steps.{Built}
 use Rattle.lists.specs.declared.State.{State}
 use Rattle.forms.specs.declared.Instruction.{Instruction}
-use Rattle.forms.specs.declared.Classified.{Classified}
+use Rattle.forms.specs.Classify.{Classified}
 use Rattle.memory.specs.declared.Site.{Site}
 use Rattle.details.specs.Why.{beside_of, detail_of}
 use Rattle.lifter.specs.Lift.{placed_of, lift_of}

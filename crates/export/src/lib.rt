@@ -36,7 +36,7 @@ fn classify_in(flat: &[u8], out: &mut [u64]) -> u32
     ensures { Classifies flat.now out.old result out.new }
 {
     let insn = flat::read(flat);
-    let answer = forms::classify(insn);
+    let answer = forms::classify(&insn);
     let w = answers::fields(answer);
     lay(out, &w);
     answers::number(answer)
@@ -64,9 +64,9 @@ pub fn x87_why(flat: &[u8], out: &mut [u64]) -> u32
     if 1 <= out.len() {
         if 177 <= flat.len() {
             let insn = flat::read(flat);
-            let answer = answers::number(forms::classify(insn));
+            let answer = answers::number(forms::classify(&insn));
             if answer == 1 {
-                out[0] = details::why(insn) as u64;
+                out[0] = details::number(details::why(&insn)) as u64;
                 return 1;
             }
             out[0] = 0;
@@ -84,7 +84,7 @@ fn effect_in(flat: &[u8], out: &mut [u64]) -> u32
     ensures { Affects flat.now out.old result out.new }
 {
     let insn = flat::read(flat);
-    let answer = forms::x87_effect(insn);
+    let answer = forms::x87_effect(&insn);
     let w = answers::effect_fields(answer);
     lay(out, &w);
     answers::effect_number(answer)
@@ -189,8 +189,8 @@ pub fn x87_lift(
         if 177 <= flat.len() {
             if 13 <= state.len() {
                 let insn = flat::read(flat);
-                let classified = forms::classify(insn);
-                let detail = details::detail(classified, insn);
+                let classified = forms::classify(&insn);
+                let detail = details::number(details::detail(classified, &insn));
                 let site = memory::site_of(insn);
                 let answer = lift_in(classified, detail, site, state, nodes, statements);
                 out[0] = details::beside(answer, detail) as u64;
@@ -230,8 +230,8 @@ fn lift_record_in(
     let mut reader = Reader::new(input);
     match reader.record_at(at) {
         Ok(Some(insn)) => {
-            let classified = forms::classify(insn);
-            let detail = details::detail(classified, insn);
+            let classified = forms::classify(&insn);
+            let detail = details::number(details::detail(classified, &insn));
             let site = memory::site_of(insn);
             let answer = lift_in(classified, detail, site, state, nodes, statements);
             let detail = details::beside(answer, detail);

@@ -1,3 +1,2 @@
-pub mod Counts
 pub mod Lookup
-mod Fits
+pub mod Found

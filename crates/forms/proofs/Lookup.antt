@@ -1,15 +1,15 @@
 -- The table is looked up by one number for a text, and that finds what its letters find.
 use mathlib.Core.Path.{◌≡◌, refl, sym, ◌∙◌, ap}
 use mathlib.Core.Bool.{Bool, true, false, cond, ◌&&◌, and-false}
-use mathlib.Core.List.{List, [], ◌∷◌, map}
-use Prim.Native.Nat.{ℕ, zero, suc, ◌+◌, ◌*◌, ◌-◌, ◌^◌, ◌<◌, ◌≤◌}
+use mathlib.Core.List.{List, [], ◌∷◌, ◌++◌, map, append-nil, append_assoc}
+use Prim.Native.Nat.{ℕ, zero, suc, ◌+◌, ◌*◌, ◌^◌, ◌<◌, ◌≤◌}
 use native.Mathlib.Nat.{pow-suc}
-use native.Mathlib.Numerals.{add-one}
 use native.Mathlib.Omega.{arith}
 use lib.Dec.{eqb, ltb, leb}
-use lib.ListN.{length, drop, get_or, drop_of_length-le, length-drop}
-use lib.Seq.{drop-cons}
+use lib.ListN.{length, length-append}
 use borrow.Author.Tests.{eq-eqb, ne_eqb, lt-ltb, lt-leb, le-leb, ltb-true, eqb-true, eqb-false, leb-true}
+use Rattle.std.specs.Prelude.{Option, Some, option_map}
+use Rattle.std.specs.List as list
 use Rattle.words.specs.Bytes.{little_endian}
 use Rattle.words.specs.Tests.{and_l, and_r}
 use Rattle.texts.specs.Bytes.{all}
@@ -119,39 +119,28 @@ pub found : (s : List ℕ) → family_in (key_of (trim_of s)) (map name_entry na
 unfolding family_of
 found s = find-key (trim_of s) names names-rule
 
--- one turn of the search, and its ends
-module _ (keys codes : List ℕ) (x i : ℕ) (e : length keys ≡ length codes) where
-  pub code-on : i < length keys → (get_or keys i 0 ≡ x → ⊥) → code_in x (drop i keys) (drop i codes) ≡ code_in x (drop (i + 1) keys) (drop (i + 1) codes)
-  unfolding code_in
-  code-on h n = rw (add-one, drop-cons keys i 0, drop-cons codes i 0 (omega arith), ne_eqb _ _ n)
-
-  pub code-stop : i < length keys → get_or keys i 0 ≡ x → code_in x (drop i keys) (drop i codes) ≡ get_or codes i 0
-  unfolding code_in
-  code-stop h q = rw (drop-cons keys i 0, drop-cons codes i 0 (omega arith), eq-eqb _ _ q)
-
-  pub code-end : length keys ≤ i → code_in x (drop i keys) (drop i codes) ≡ 255
-  unfolding code_in
-  code-end h = rw (drop_of_length-le keys h)
-
 -- the rows of the source's two columns
 abbrev entries : List ℕ → List ℕ → List Entry
 entries [] codes = []
 entries (k ∷ keys) [] = []
 entries (k ∷ keys) (c ∷ codes) = record { key = k; family = family_from c } ∷ entries keys codes
 
-code-family : (x : ℕ) (keys codes : List ℕ) → family_from (code_in x keys codes) ≡ family_in x (entries keys codes)
+code-family : (x : ℕ) (keys codes : List ℕ) → option_map family_from (code_in x keys codes) ≡ family_in x (entries keys codes)
 unfolding code_in family_from
 code-family x [] codes = refl
 code-family x (k ∷ keys) [] = refl
 code-family x (k ∷ keys) (c ∷ codes) = split (eqb k x) (code-family x keys codes)
   where
-    split : (e : Bool) → family_from (code_in x keys codes) ≡ family_in x (entries keys codes)
-        → family_from (cond e c (code_in x keys codes)) ≡ cond e (family_from c) (family_in x (entries keys codes))
+    rest : Option (ℕ × ℕ)
+    rest = list.find (λ p. eqb p.0 x) (list.zip keys codes)
+
+    split : (e : Bool) → option_map family_from (option_map (λ p. p.1) rest) ≡ family_in x (entries keys codes)
+        → option_map family_from (option_map (λ p. p.1) (cond e (Some (k, c)) rest)) ≡ cond e (Some (family_from c)) (family_in x (entries keys codes))
     split true h = refl
     split false h = h
 
 -- columns whose rows are those of the names find what they find
-pub code-rule : (keys codes : List ℕ) → entries keys codes ≡ map name_entry names → (x : ℕ) → family_from (code_in x keys codes) ≡ family_in x (map name_entry names)
+pub code-rule : (keys codes : List ℕ) → entries keys codes ≡ map name_entry names → (x : ℕ) → option_map family_from (code_in x keys codes) ≡ family_in x (map name_entry names)
 code-rule keys codes e x = code-family x keys codes ∙ ap (family_in x) e
 
 -- the number of a short text is small
@@ -166,44 +155,51 @@ bound (x ∷ l) (suc k) h e =
     let p = bound l k (omega arith) m.2 in
     rw (pow-suc 256 k) (omega arith)
 
--- what is left of a text of eight bytes, but for its first byte, is below 2 to the 56
-pub key-small : (s : List ℕ) (i : ℕ) → length s ≤ 8 → 0 < i → all lower_is (drop i s) ≡ true → little_endian (map lower_of (drop i s)) < 72057594037927936
-key-small s i h l e = bound (drop i s) 7 (omega (arith, length-drop i s)) e
+-- a part of a list with an entry that fails
+none-in : (r t : List ℕ) → all lower_is t ≡ false → all lower_is (r ++ t) ≡ false
+none-in [] t e = e
+none-in (x ∷ r) t e = rw (none-in r t e) (and-false (lower_is x))
 
-module _ (s : List ℕ) (i k b n : ℕ) (q : k ≡ i - 1) (l : 0 < i) (h : i ≤ length s) (r : b ≡ lower_of (get_or s k 0)) where
-  cell : drop k s ≡ get_or s k 0 ∷ drop i s
-  cell =
-      let e : suc k ≡ i = omega arith in
-      drop-cons s k 0 (omega arith) ∙ rw e
+-- the letters behind r of a short text s have been read, and their number is n
+pub record Read (s r : List ℕ) (n : ℕ) : Type 0 where
+  pub done : List ℕ
+  pub short : length s ≤ 8
+  pub whole : r ++ done ≡ s
+  pub number : n ≡ little_endian (map lower_of done)
+  pub letters : all lower_is done ≡ true
 
-  pub key-on : n ≡ little_endian (map lower_of (drop i s)) → n * 256 + b ≡ little_endian (map lower_of (drop k s))
-  key-on e = rw (cell, ← r, ← e) (omega arith)
+pub read-none : (s : List ℕ) → length s ≤ 8 → Read s s 0
+read-none s h = record { done = []; short = h; whole = append-nil s; number = refl; letters = refl }
 
-  pub key_in : (b ≡ 0 → ⊥) → b < 256 → all lower_is (drop i s) ≡ true → all lower_is (drop k s) ≡ true
-  key_in z c e = rw (cell, ← r, lt-ltb 0 b (omega arith), lt-ltb b 256 c) e
+module _ {s t : List ℕ} {n : ℕ} (r : List ℕ) (x : ℕ) (p : Read s t n) (e : t ≡ r ++ x ∷ []) where
+  parts : r ++ x ∷ p.done ≡ s
+  parts = sym (append_assoc r (x ∷ []) p.done) ∙ rw (← e) p.whole
 
-none-at : (f : ℕ → Bool) (s : List ℕ) (k : ℕ) → k < length s → f (get_or s k 0) ≡ false → all f s ≡ false
-none-at f [] k h e = absurd (omega arith)
-none-at f (x ∷ s) zero h e = rw e
-none-at f (x ∷ s) (suc k) h e = rw (none-at f s k (omega arith) e) (and-false (f x))
+  -- it has at most seven letters, and one more is read
+  pub read-small : n < 72057594037927936
+  read-small =
+      let l : length p.done ≤ 7 = omega (arith, ap length parts, length-append r (x ∷ p.done), p.short) in
+      rw p.number (bound p.done 7 l p.letters)
 
-pub key-zero : (s : List ℕ) (k b : ℕ) → k < length s → b ≡ lower_of (get_or s k 0) → b ≡ 0 → 0 ≡ key_of s
+  pub read-on : (b : ℕ) → b ≡ lower_of x → (b ≡ 0 → ⊥) → b < 256 → Read s r (n * 256 + b)
+  read-on b q z h =
+      record {
+        done = x ∷ p.done;
+        short = p.short;
+        whole = parts;
+        number = rw (← q, ← p.number) (omega arith);
+        letters = rw (← q, lt-ltb 0 b (omega arith), lt-ltb b 256 h) p.letters;
+      }
+
+  pub read-zero : (b : ℕ) → b ≡ lower_of x → b ≡ 0 → 0 ≡ key_of s
+  unfolding key_of
+  read-zero b q z = rw (← parts, none-in r (x ∷ p.done) (rw (← q, z)), and-false)
+
+pub read-all : (s r : List ℕ) (n : ℕ) → Read s r n → length r ≡ 0 → n ≡ key_of s
 unfolding key_of
-key-zero s k b h r z = rw (none-at lower_is s k h (rw (← r, z)), and-false)
+read-all s [] n p h = rw (← p.whole, le-leb (length p.done) 8 (omega (arith, ap length p.whole, p.short)), p.letters) p.number
+read-all s (x ∷ r) n p h = absurd (omega arith)
 
 pub key-long : (s : List ℕ) → 8 < length s → 0 ≡ key_of s
 unfolding key_of
 key-long s h = rw (lt-leb (length s) 8 h)
-
-pub key-whole : (s : List ℕ) (i n : ℕ) → length s ≤ 8 → i ≤ 0 → n ≡ little_endian (map lower_of (drop i s)) → all lower_is (drop i s) ≡ true → n ≡ key_of s
-unfolding key_of
-key-whole s zero n h l e f = rw (le-leb (length s) 8 h, f) e
-key-whole s (suc i) n h l e f = absurd (omega arith)
-
-lower-case : (b : Bool) (x : ℕ) → x < 256 → (b ≡ true → x ≤ 90) → cond b (x + 32) x < 256
-lower-case true x h l = let m = l refl in omega arith
-lower-case false x h l = h
-
--- a byte in lower case is a byte
-pub lower-byte : (x b : ℕ) → x < 256 → b ≡ lower_of x → b < 256
-lower-byte x b h e = rw e (lower-case (leb 65 x && leb x 90) x h (λ t. leb-true x 90 (and_r (leb 65 x) (leb x 90) t)))

@@ -1,15 +1,12 @@
 -- What an instruction touches beyond the registers that its operands name.
-use Rattle.std.specs.Prelude.{Bool, true, false, eqb, get_or}
+use Rattle.std.specs.Prelude.{Bool, true, false, eqb, get_or, Option, Some, None, Result, Ok, Err}
 use Rattle.forms.specs.Operands.{no_operand}
-use Rattle.forms.specs.Classify.{classify_of}
+use Rattle.forms.specs.Classify.{Classified, classify_of}
 use Rattle.forms.specs.declared.Instruction.{Instruction}
 use Rattle.forms.specs.declared.Form.{Form}
 use Rattle.forms.specs.declared.Form.TheVariants.{PushConst, PushMemory, PushSlot, StoreMemory, StoreSlot, Arith, CompareStatus, CompareFlags, ConditionalMove, StoreStatus, Exchange, Unary}
-use Rattle.forms.specs.declared.Classified.{Classified}
-use Rattle.forms.specs.declared.Classified.TheVariants as classified
+use Rattle.forms.specs.declared.BadInstruction.{BadInstruction}
 use Rattle.forms.specs.declared.Effect.{Effect}
-use Rattle.forms.specs.declared.Affected.{Affected}
-use Rattle.forms.specs.declared.Affected.TheVariants.{Modelled, Declined, BadText, BadOperands}
 
 -- the whole stack, both defined and used; besides it the status word or the flags are defined, or the flags are read
 abbrev pub stack_of : Bool → Bool → Bool → Effect
@@ -35,11 +32,13 @@ touched_of StoreStatus r = status_of r
 touched_of (Exchange i) r = stack_of false false false
 touched_of (Unary op) r = stack_of false false false
 
+abbrev pub Affected : Type 0
+Affected = Result (Option Effect) BadInstruction
+
 abbrev pub affected_of : Classified → Bool → Affected
-affected_of (classified.Modelled f) r = Modelled (touched_of f r)
-affected_of classified.Declined r = Declined
-affected_of classified.BadText r = BadText
-affected_of classified.BadOperands r = BadOperands
+affected_of (Ok (Some f)) r = Ok (Some (touched_of f r))
+affected_of (Ok None) r = Ok None
+affected_of (Err e) r = Err e
 
 unfoldable pub effect_of : Instruction → Affected
 effect_of i = affected_of (classify_of i) (eqb (get_or i.operands 0 no_operand).kind 0)

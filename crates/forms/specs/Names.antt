@@ -1,10 +1,10 @@
 -- The 56 names, and what each stands for: those that `classify` lists, `fcmov` with its eight suffixes, and six arithmetic names with and without a final `p`.
-use Rattle.std.specs.Prelude.{Bool, true, false, cond, List, [], ◌∷◌, ℕ, ◌^◌}
+use Rattle.std.specs.Prelude.{Bool, true, false, cond, List, [], ◌∷◌, ℕ, ◌^◌, Option, Some, None}
 use Prim.Native.String as str
 use Rattle.texts.specs.Bytes.{bytes}
 use Rattle.texts.specs.Letters.{trim_of, same_letters}
 use Rattle.forms.specs.declared.Family.{Family}
-use Rattle.forms.specs.declared.Family.TheVariants.{Plain, Exchange, Load, Store, StatusCompare, PairedCompare, FlagCompare, StoreStatus, ConditionalMove, IntegerArith, IntegerCompare, Arith, Unknown}
+use Rattle.forms.specs.declared.Family.TheVariants.{Plain, Exchange, Load, Store, StatusCompare, PairedCompare, FlagCompare, StoreStatus, ConditionalMove, IntegerArith, IntegerCompare, Arith}
 use Rattle.forms.specs.declared.Form.{Form}
 use Rattle.forms.specs.declared.Form.TheVariants.{PushConst, Unary}
 use Rattle.forms.specs.declared.UnaryOp.TheVariants.{Abs, Chs, Sqrt, RoundToIntegral}
@@ -97,9 +97,9 @@ names =
     []
 
 -- what the first name of a table that the text spells, in either case, stands for
-abbrev pub find : List ℕ → List Name → Family
-find s [] = Unknown
-find s (n ∷ ns) = cond (same_letters s n.text) n.family (find s ns)
+abbrev pub find : List ℕ → List Name → Option Family
+find s [] = None
+find s (n ∷ ns) = cond (same_letters s n.text) (Some n.family) (find s ns)
 
-unfoldable pub family_of : List ℕ → Family
+unfoldable pub family_of : List ℕ → Option Family
 family_of s = find (trim_of s) names

@@ -1,5 +1,5 @@
 -- The numbers that answers and forms have outside (the manual, sections 4, 7 and 9): those of forms follow the order of the Rust's declarations.
-use Rattle.std.specs.Prelude.{Bool, true, false, List, [], ◌∷◌, ℕ}
+use Rattle.std.specs.Prelude.{Bool, true, false, List, [], ◌∷◌, ℕ, Some, None, Ok, Err}
 use Rattle.forms.specs.declared.X87Arith.{X87Arith}
 use Rattle.forms.specs.declared.X87Arith.TheVariants.{Add, Sub, Mul, Div}
 use Rattle.forms.specs.declared.MemFormat.{MemFormat}
@@ -14,11 +14,10 @@ use Rattle.forms.specs.declared.UnaryOp.{UnaryOp}
 use Rattle.forms.specs.declared.UnaryOp.TheVariants.{Abs, Chs, Sqrt, RoundToIntegral}
 use Rattle.forms.specs.declared.Form.{Form}
 use Rattle.forms.specs.declared.Form.TheVariants.{PushConst, PushMemory, PushSlot, StoreMemory, StoreSlot, Arith, CompareStatus, CompareFlags, ConditionalMove, StoreStatus, Exchange, Unary}
-use Rattle.forms.specs.declared.Classified.{Classified}
-use Rattle.forms.specs.declared.Classified.TheVariants as classified
+use Rattle.forms.specs.declared.BadInstruction.TheVariants as bad
+use Rattle.forms.specs.Classify.{Classified}
+use Rattle.forms.specs.Effects.{Affected}
 use Rattle.forms.specs.declared.Effect.{Effect}
-use Rattle.forms.specs.declared.Affected.{Affected}
-use Rattle.forms.specs.declared.Affected.TheVariants as affected
 
 abbrev pub bit : Bool → ℕ
 bit false = 0
@@ -88,17 +87,16 @@ no_words = 0 ∷ 0 ∷ 0 ∷ 0 ∷ 0 ∷ 0 ∷ 0 ∷ 0 ∷ []
 
 -- 0 modelled, 1 declined, 3 and 4 refused
 abbrev pub number_of : Classified → ℕ
-number_of (classified.Modelled f) = 0
-number_of classified.Declined = 1
-number_of classified.BadText = 3
-number_of classified.BadOperands = 4
+number_of (Ok (Some f)) = 0
+number_of (Ok None) = 1
+number_of (Err bad.Text) = 3
+number_of (Err bad.Operands) = 4
 
 -- beside 1, 3 and 4 every field is 0
 abbrev pub fields_of : Classified → List ℕ
-fields_of (classified.Modelled f) = words_of f
-fields_of classified.Declined = no_words
-fields_of classified.BadText = no_words
-fields_of classified.BadOperands = no_words
+fields_of (Ok (Some f)) = words_of f
+fields_of (Ok None) = no_words
+fields_of (Err e) = no_words
 
 abbrev pub flags_of : Effect → List ℕ
 flags_of e =
@@ -108,13 +106,12 @@ abbrev pub no_flags : List ℕ
 no_flags = 0 ∷ 0 ∷ 0 ∷ 0 ∷ 0 ∷ 0 ∷ 0 ∷ []
 
 abbrev pub effect_number : Affected → ℕ
-effect_number (affected.Modelled e) = 0
-effect_number affected.Declined = 1
-effect_number affected.BadText = 3
-effect_number affected.BadOperands = 4
+effect_number (Ok (Some e)) = 0
+effect_number (Ok None) = 1
+effect_number (Err bad.Text) = 3
+effect_number (Err bad.Operands) = 4
 
 abbrev pub effect_fields : Affected → List ℕ
-effect_fields (affected.Modelled e) = flags_of e
-effect_fields affected.Declined = no_flags
-effect_fields affected.BadText = no_flags
-effect_fields affected.BadOperands = no_flags
+effect_fields (Ok (Some e)) = flags_of e
+effect_fields (Ok None) = no_flags
+effect_fields (Err e) = no_flags

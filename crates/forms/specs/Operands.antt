@@ -1,14 +1,10 @@
 -- Operands: their range, the place that one names, the width that it has.
 use mathlib.Core.Bool.{Bool, true, cond, ◌&&◌, ◌||◌}
-use Rattle.std.specs.Prelude.{List, [], ◌∷◌, ℕ, leb, eqb, get_or}
+use Rattle.std.specs.Prelude.{List, [], ◌∷◌, ℕ, leb, eqb, get_or, Option, Some, None}
 use Rattle.texts.specs.Bytes.{bytes, bytes_of, valid_of}
 use Rattle.texts.specs.Letters.{trim_of, same_letters}
 use Rattle.texts.specs.Places.{place_of}
-use Rattle.texts.specs.declared.Place.{Place}
-use Rattle.texts.specs.declared.Place.TheVariants.{Nowhere}
 use Rattle.forms.specs.declared.Operand.{Operand}
-use Rattle.forms.specs.declared.Width.{Width}
-use Rattle.forms.specs.declared.Width.TheVariants.{Bits, Unmodelled}
 use Rattle.forms.specs.declared.Widths.{Widths}
 use Rattle.forms.specs.declared.Widths.TheVariants.{FloatWidths, FloatShort, IntWidths, IntArith, IntStore, StatusWidth}
 
@@ -21,8 +17,8 @@ unfoldable pub spelled_is : Operand → Bool
 spelled_is o = cond (eqb o.kind 0) (valid_of o.text) true
 
 -- the place that an operand names: a register's text
-unfoldable pub slot_of : Operand → Place
-slot_of o = cond (eqb o.kind 0) (place_of (bytes_of o.text)) Nowhere
+unfoldable pub slot_of : Operand → Option ℕ
+slot_of o = cond (eqb o.kind 0) (place_of (bytes_of o.text)) None
 
 -- the register `ax`, in either case
 unfoldable pub ax_of : List ℕ → Bool
@@ -46,8 +42,8 @@ abbrev pub takes_of : Widths → ℕ → Bool
 takes_of ws w = among w (widths_of ws)
 
 -- the width of a memory operand whose address is known, where the table lists it
-unfoldable pub width_of : Widths → Operand → Width
-width_of ws o = cond (eqb o.kind 1 && (eqb o.known 1 && takes_of ws o.width)) (Bits o.width) Unmodelled
+unfoldable pub width_of : Widths → Operand → Option ℕ
+width_of ws o = cond (eqb o.kind 1 && (eqb o.known 1 && takes_of ws o.width)) (Some o.width) None
 
 -- an instruction's operands, as far as a family looks at them
 pub data Operands : Type 0 where
@@ -66,3 +62,10 @@ operands_of n s =
     cond (eqb n 0) none
     (cond (eqb n 1) (one (get_or s 0 no_operand))
     (cond (eqb n 2) (two (get_or s 0 no_operand) (get_or s 1 no_operand)) more))
+
+-- the records themselves
+abbrev pub operands_in : List Operand → Operands
+operands_in [] = none
+operands_in (a ∷ []) = one a
+operands_in (a ∷ b ∷ []) = two a b
+operands_in (a ∷ b ∷ c ∷ s) = more

@@ -1,5 +1,5 @@
 -- What the names of each family take: on their own, with one operand, with two.
-use Rattle.std.specs.Prelude.{Bool, true, false}
+use Rattle.std.specs.Prelude.{Bool, true, false, Option, Some, None}
 use Rattle.forms.specs.declared.Family.{Family}
 use Rattle.forms.specs.declared.Family.TheVariants as family
 use Rattle.forms.specs.declared.MemFormat.{MemFormat}
@@ -14,11 +14,8 @@ use Rattle.forms.specs.declared.Two.TheVariants as two
 use Rattle.forms.specs.declared.Widths.{Widths}
 use Rattle.forms.specs.declared.Widths.TheVariants.{FloatShort, IntArith, StatusWidth}
 
-abbrev pub shaped_of : Bool → One → Two → Shape
-shaped_of alone o t = record { known = true; alone = alone; one = o; two = t }
-
-abbrev pub only_of : One → Shape
-only_of o = shaped_of false o two.Nothing
+abbrev pub shaped_of : Bool → Option One → Option Two → Shape
+shaped_of alone o t = record { alone = alone; one = o; two = t }
 
 -- a place is loaded and stored to as a float alone
 abbrev pub moved_one : MemFormat → Widths → One
@@ -29,18 +26,21 @@ abbrev pub compared_one : MemorySource → One
 compared_one Allowed = one.PlaceOr FloatShort
 compared_one Forbidden = one.Place
 
+-- there is no popping form with memory
+abbrev pub arith_one : Bool → One
+arith_one true = one.Place
+arith_one false = one.PlaceOr FloatShort
+
 unfoldable pub shape_of : Family → Shape
-shape_of (family.Plain f) = shaped_of true one.Nothing two.Nothing
-shape_of family.Exchange = shaped_of true one.Place two.Nothing
-shape_of (family.Load f ws) = only_of (moved_one f ws)
-shape_of (family.Store spec) = only_of (moved_one spec.format spec.widths)
-shape_of (family.StatusCompare p m) = shaped_of true (compared_one m) two.Nothing
-shape_of family.PairedCompare = shaped_of true one.Nothing two.Nothing
-shape_of (family.FlagCompare pop) = shaped_of false one.Place two.Second
-shape_of family.StoreStatus = only_of (one.AxOr StatusWidth)
-shape_of (family.ConditionalMove k) = shaped_of false one.Nothing two.TopAnd
-shape_of (family.IntegerArith op rev) = only_of (one.Memory IntArith)
-shape_of (family.IntegerCompare p) = only_of (one.Memory IntArith)
-shape_of (family.Arith op rev false) = shaped_of false (one.PlaceOr FloatShort) two.Places
-shape_of (family.Arith op rev true) = shaped_of true one.Place two.Places
-shape_of family.Unknown = record { known = false; alone = false; one = one.Nothing; two = two.Nothing }
+shape_of (family.Plain f) = shaped_of true None None
+shape_of family.Exchange = shaped_of true (Some one.Place) None
+shape_of (family.Load f ws) = shaped_of false (Some (moved_one f ws)) None
+shape_of (family.Store spec) = shaped_of false (Some (moved_one spec.format spec.widths)) None
+shape_of (family.StatusCompare p m) = shaped_of true (Some (compared_one m)) None
+shape_of family.PairedCompare = shaped_of true None None
+shape_of (family.FlagCompare pop) = shaped_of false (Some one.Place) (Some two.Second)
+shape_of family.StoreStatus = shaped_of false (Some (one.AxOr StatusWidth)) None
+shape_of (family.ConditionalMove k) = shaped_of false None (Some two.TopAnd)
+shape_of (family.IntegerArith op rev) = shaped_of false (Some (one.Memory IntArith)) None
+shape_of (family.IntegerCompare p) = shaped_of false (Some (one.Memory IntArith)) None
+shape_of (family.Arith op rev pop) = shaped_of pop (Some (arith_one pop)) (Some two.Places)

@@ -141,13 +141,6 @@ pub enum Widths {
     StatusWidth,
 }
 
-// The width of a memory operand that a family takes.
-#[derive(Clone, Copy)]
-pub enum Width {
-    Bits(u16),
-    Unmodelled,
-}
-
 // The fixed part of a store: what the destination holds, its widths, whether it pops, how it rounds.
 #[derive(Clone, Copy)]
 pub struct StoreSpec {
@@ -196,45 +189,42 @@ pub enum Family {
         reversed: bool,
         pop: bool,
     },
-    Unknown,
 }
 
-// The one operand that a name takes, if any: a place, a place or memory, memory, `ax` or memory.
+// The one operand that a name takes: a place, a place or memory, memory, `ax` or memory.
 #[derive(Clone, Copy)]
 pub enum One {
-    Nothing,
     Place,
     PlaceOr(Widths),
     Memory(Widths),
     AxOr(Widths),
 }
 
-// The two operands that a name takes, if any: anything and a place, place 0 and a place, two places.
+// The two operands that a name takes: anything and a place, place 0 and a place, two places.
 #[derive(Clone, Copy)]
 pub enum Two {
-    Nothing,
     Second,
     TopAnd,
     Places,
 }
 
-// What a name takes: whether there is such a name, whether it stands alone, and the operands that it takes.
+// What a name takes: whether it stands alone, and the operands that it takes, if any.
 #[derive(Clone, Copy)]
 pub struct Shape {
-    pub known: bool,
     pub alone: bool,
-    pub one: One,
-    pub two: Two,
+    pub one: Option<One>,
+    pub two: Option<Two>,
 }
 
-// The answer of `classify`: a form, the Rust's decline, or the refusal of a text (3) or of an operand (4).
+// Why an instruction is refused: a text of it is none (3), or its count or an operand (4).
 #[derive(Clone, Copy)]
-pub enum Classified {
-    Modelled(Form),
-    Declined,
-    BadText,
-    BadOperands,
+pub enum BadInstruction {
+    Text,
+    Operands,
 }
+
+// The answer of `classify`: a form, none where the Rust declines, or the refusal.
+pub type Classified = Result<Option<Form>, BadInstruction>;
 
 // What an instruction touches beyond the registers that its operands name.
 #[derive(Clone, Copy)]
@@ -249,82 +239,57 @@ pub struct Effect {
 }
 
 // The answer of `x87_effect`, as that of `classify`.
-#[derive(Clone, Copy)]
-pub enum Affected {
-    Modelled(Effect),
-    Declined,
-    BadText,
-    BadOperands,
-}
+pub type Affected = Result<Option<Effect>, BadInstruction>;
 
 // Whether an operand's kind, and a memory operand's flag, are in range.
-fn ranged(o: Operand) -> bool
-    ensures { result ≡ ranged_is o }
+fn ranged(o: &Operand) -> bool
+    ensures { result ≡ ranged_is o.now }
 {
     if o.kind == 1 {
-        return o.known <= 1;
+        o.known <= 1
+    } else {
+        o.kind <= 2
     }
-    o.kind <= 2
 }
 
 // Whether a register operand's text is one.
-fn spelled(o: Operand) -> bool
-    ensures { result ≡ spelled_is o }
+fn spelled(o: &Operand) -> bool
+    ensures { result ≡ spelled_is o.now }
 {
-    let t = o.text;
-    if o.kind == 0 {
-        return texts::valid(t);
-    }
-    true
+    o.kind != 0 || o.text.is_valid()
 }
 
-// Whether every operand below the count is in range, and every register text among them one.
-#[derive(Clone, Copy)]
-struct Fit {
-    ranged: bool,
-    spelled: bool,
+// Whether every operand is in range.
+fn all_ranged(operands: &[Operand]) -> bool
+    ensures { result ≡ all ranged_is operands.now }
+{
+    operands.iter().all(ranged)
 }
 
-fn operands_fit(ops: [Operand; 3], count: usize) -> Fit
-    requires { count ≤ 3 }
-    ensures { (result.ranged ≡ all ranged_is (take count ops)) × (result.spelled ≡ all spelled_is (take count ops)) }
+// Whether every register operand's text is one.
+fn all_spelled(operands: &[Operand]) -> bool
+    ensures { result ≡ all spelled_is operands.now }
 {
-    let mut in_range = true;
-    let mut texts = true;
-    let mut i = 0;
-    while i < count {
-        let o = ops[i];
-        in_range = in_range & ranged(o);
-        texts = texts & spelled(o);
-        i += 1;
-    }
-    Fit {
-        ranged: in_range,
-        spelled: texts,
-    }
+    operands.iter().all(spelled)
 }
 
-// What an instruction does to the stack, or that it is declined, or 4 or 3 where it is no instruction.
-pub fn classify(insn: Instruction) -> Classified
-    ensures { result ≡ classify_of insn }
+// What an instruction does to the stack, or that it is declined, or that it is no instruction.
+pub fn classify(insn: &Instruction) -> Classified
+    ensures { result ≡ classify_of insn.now }
 {
-    let ops = insn.operands;
-    let m = insn.mnemonic;
-    let count = insn.count;
-    if 3 < count {
-        return Classified::BadOperands;
+    let Some(operands) = insn.operands.get(..insn.count) else {
+        return Err(BadInstruction::Operands);
+    };
+    if !all_ranged(operands) {
+        return Err(BadInstruction::Operands);
     }
-    let fit = operands_fit(ops, count);
-    if fit.ranged {
-        if texts::valid(m) {
-            if fit.spelled {
-                let family = names::family_text(m);
-                return families::form(family, ops, count);
-            }
-        }
-        return Classified::BadText;
+    if !insn.mnemonic.is_valid() || !all_spelled(operands) {
+        return Err(BadInstruction::Text);
     }
-    Classified::BadOperands
+    Ok(match names::family(insn.mnemonic.as_bytes()) {
+        Some(family) => families::form(family, operands),
+        None => None,
+    })
 }
 
 // The whole stack, both defined and used, and besides it the status word or the flags defined, or the flags read.
@@ -362,48 +327,27 @@ fn touched(form: Form, register: bool) -> Effect
     ensures { result ≡ touched_of form register }
 {
     match form {
-        Form::PushConst { low: _, high: _ } => stack(false, false, false),
-        Form::PushMemory {
-            width: _,
-            format: _,
-        } => stack(false, false, false),
-        Form::PushSlot(_) => stack(false, false, false),
-        Form::StoreMemory {
-            width: _,
-            format: _,
-            pop: _,
-            rounding: _,
-        } => stack(false, false, false),
-        Form::StoreSlot { index: _, pop: _ } => stack(false, false, false),
-        Form::Arith {
-            op: _,
-            dst: _,
-            src: _,
-            reversed: _,
-            pop: _,
-        } => stack(false, false, false),
-        Form::CompareStatus { src: _, pops: _ } => stack(true, false, false),
-        Form::CompareFlags { src: _, pop: _ } => stack(false, true, false),
-        Form::ConditionalMove {
-            src: _,
-            condition: _,
-        } => stack(false, false, true),
+        Form::CompareStatus { .. } => stack(true, false, false),
+        Form::CompareFlags { .. } => stack(false, true, false),
+        Form::ConditionalMove { .. } => stack(false, false, true),
         Form::StoreStatus => status(register),
-        Form::Exchange(_) => stack(false, false, false),
-        Form::Unary(_) => stack(false, false, false),
+        Form::PushConst { .. }
+        | Form::PushMemory { .. }
+        | Form::PushSlot(_)
+        | Form::StoreMemory { .. }
+        | Form::StoreSlot { .. }
+        | Form::Arith { .. }
+        | Form::Exchange(_)
+        | Form::Unary(_) => stack(false, false, false),
     }
 }
 
 // What an instruction touches, or as `classify` that it is declined or no instruction.
-pub fn x87_effect(insn: Instruction) -> Affected
-    ensures { result ≡ effect_of insn }
+pub fn x87_effect(insn: &Instruction) -> Affected
+    ensures { result ≡ effect_of insn.now }
 {
-    let ops = insn.operands;
-    let first = ops[0];
-    match classify(insn) {
-        Classified::Modelled(form) => Affected::Modelled(touched(form, first.kind == 0)),
-        Classified::Declined => Affected::Declined,
-        Classified::BadText => Affected::BadText,
-        Classified::BadOperands => Affected::BadOperands,
-    }
+    let Some(form) = classify(insn)? else {
+        return Ok(None);
+    };
+    Ok(Some(touched(form, insn.operands[0].kind == 0)))
 }

@@ -1,8 +1,7 @@
 // The table of the 56 names, and the reading of a mnemonic by it.
-ghost use Rattle.std.specs.Prelude.{◌≡◌, map, length, take};
-ghost use Rattle.texts.specs.Bytes.{bytes_of};
+ghost use Rattle.std.specs.Prelude.{◌≡◌, map, option_map};
 ghost use Rattle.forms.specs.Names.{names, family_of};
-ghost use Rattle.forms.specs.Shapes.{shaped_of, only_of, shape_of};
+ghost use Rattle.forms.specs.Shapes.{moved_one, compared_one, arith_one, shape_of};
 ghost use Rattle.forms.specs.Inside.Keys.{key_of, code_in, family_in, name_entry};
 ghost use Rattle.forms.specs.Inside.Codes.{plain_from, load_from, pinned_of, store_from, compare_from, condition_from, arith_from, reversed_from, family_from};
 
@@ -10,7 +9,6 @@ use super::{
     Family, Form, MemFormat, MemorySource, One, RoundingMode, Shape, StoreSpec, Two, UnaryOp,
     Widths, X87Arith, X87Condition,
 };
-use texts::Text;
 
 // The names, each with its first letter in the low byte.
 const NAMES: [u64; 56] = [
@@ -132,26 +130,12 @@ const CODES: [u8; 56] = [
     0xc5, // fdivrp
 ];
 
-// The code beside the first key that is this one, or 255, which no name has.
-fn code_in(keys: &[u64], codes: &[u8], key: u64) -> u8
-    requires { length keys.now ≡ length codes.now }
+// The code beside the key that is this one.
+fn code_in(keys: &[u64], codes: &[u8], key: u64) -> Option<u8>
     ensures { result ≡ code_in key keys.now codes.now }
 {
-    let mut i = 0;
-    while i < keys.len() {
-        if keys[i] == key {
-            return codes[i];
-        }
-        i += 1;
-    }
-    255
-}
-
-// The code of the name with this key.
-fn code_of(key: u64) -> u8
-    ensures { family_from result ≡ family_in key (map name_entry names) }
-{
-    code_in(&NAMES, &CODES, key)
+    let (_, code) = keys.iter().zip(codes).find(|(k, _)| **k == key)?;
+    Some(*code)
 }
 
 // The names that take no operand.
@@ -299,12 +283,11 @@ fn family_from(code: u8) -> Family
             reversed: reversed_from(which),
             pop: false,
         },
-        12 => Family::Arith {
+        _ => Family::Arith {
             op: arith_from(which),
             reversed: reversed_from(which),
             pop: true,
         },
-        _ => Family::Unknown,
     }
 }
 
@@ -315,129 +298,81 @@ fn key(s: &[u8]) -> u64
     if 8 < s.len() {
         return 0;
     }
-    let mut n: u64 = 0;
-    let mut i = s.len();
-    while 0 < i {
-        let k = i - 1;
-        let b = texts::lower(s[k]);
+    let mut n = 0;
+    for letter in s.iter().rev() {
+        let b = texts::lower(*letter);
         if b == 0 {
             return 0;
         }
-        n = n * 256 + (b as u64);
-        i = k;
+        n = n * 256 + u64::from(b);
     }
     n
 }
 
 // What a mnemonic stands for.
-fn family(s: &[u8]) -> Family
+#[inline(always)]
+pub(crate) fn family(s: &[u8]) -> Option<Family>
     ensures { result ≡ family_of s.now }
 {
-    let t = texts::trim(s);
-    family_from(code_of(key(t)))
+    let code = code_in(&NAMES, &CODES, key(texts::trim(s)))?;
+    Some(family_from(code))
 }
 
-fn family_in(b: [u8; 32], n: usize) -> Family
-    ensures { result ≡ family_of (take n b) }
+// The one operand of a load or a store: a place is loaded and stored to as a float alone.
+fn moved(format: MemFormat, widths: Widths) -> One
+    ensures { result ≡ moved_one format widths }
 {
-    if n <= 32 {
-        return family(&b[..n]);
-    }
-    family(&b)
-}
-
-// What a mnemonic by value stands for.
-pub(crate) fn family_text(t: Text) -> Family
-    ensures { result ≡ family_of (bytes_of t) }
-{
-    let b = t.bytes;
-    family_in(b, t.len)
-}
-
-// A name that there is.
-fn shaped(alone: bool, one: One, two: Two) -> Shape
-    ensures { result ≡ shaped_of alone one two }
-{
-    Shape {
-        known: true,
-        alone,
-        one,
-        two,
+    match format {
+        MemFormat::Float => One::PlaceOr(widths),
+        MemFormat::Integer => One::Memory(widths),
     }
 }
 
-// A name that takes one operand and nothing else.
-fn only_one(one: One) -> Shape
-    ensures { result ≡ only_of one }
+// The one operand of a compare.
+fn compared(memory: MemorySource) -> One
+    ensures { result ≡ compared_one memory }
 {
-    shaped(false, one, Two::Nothing)
-}
-
-fn load_shape(which: u8) -> Shape
-    ensures { result ≡ shape_of (load_from which) }
-{
-    if which == 0 {
-        return only_one(One::PlaceOr(Widths::FloatWidths));
-    }
-    only_one(One::Memory(Widths::IntWidths))
-}
-
-fn store_shape(which: u8) -> Shape
-    ensures { result ≡ shape_of (Family.Store (store_from which)) }
-{
-    match which {
-        0 => only_one(One::PlaceOr(Widths::FloatShort)),
-        1 => only_one(One::PlaceOr(Widths::FloatWidths)),
-        2 => only_one(One::Memory(Widths::IntStore)),
-        3 => only_one(One::Memory(Widths::IntWidths)),
-        _ => only_one(One::Memory(Widths::IntWidths)),
+    match memory {
+        MemorySource::Allowed => One::PlaceOr(Widths::FloatShort),
+        MemorySource::Forbidden => One::Place,
     }
 }
 
-fn compare_shape(which: u8) -> Shape
-    ensures { result ≡ shape_of (compare_from which) }
+// The one operand of an arithmetic: there is no popping form with memory.
+fn popping(pop: bool) -> One
+    ensures { result ≡ arith_one pop }
 {
-    match which {
-        0 => shaped(true, One::PlaceOr(Widths::FloatShort), Two::Nothing),
-        1 => shaped(true, One::PlaceOr(Widths::FloatShort), Two::Nothing),
-        2 => shaped(true, One::Place, Two::Nothing),
-        _ => shaped(true, One::Place, Two::Nothing),
+    if pop {
+        One::Place
+    } else {
+        One::PlaceOr(Widths::FloatShort)
     }
 }
 
-// What the name with a code takes.
-fn shape_from(code: u8) -> Shape
-    ensures { result ≡ shape_of (family_from code) }
+// What the names of a family take.
+fn shape_of(family: Family) -> Shape
+    ensures { result ≡ shape_of family }
 {
-    let family = code / 16;
-    let which = code % 16;
-    match family {
-        0 => shaped(true, One::Nothing, Two::Nothing),
-        1 => shaped(true, One::Place, Two::Nothing),
-        2 => load_shape(which),
-        3 => store_shape(which),
-        4 => compare_shape(which),
-        5 => shaped(true, One::Nothing, Two::Nothing),
-        6 => shaped(false, One::Place, Two::Second),
-        7 => only_one(One::AxOr(Widths::StatusWidth)),
-        8 => shaped(false, One::Nothing, Two::TopAnd),
-        9 => only_one(One::Memory(Widths::IntArith)),
-        10 => only_one(One::Memory(Widths::IntArith)),
-        11 => shaped(false, One::PlaceOr(Widths::FloatShort), Two::Places),
-        12 => shaped(true, One::Place, Two::Places),
-        _ => Shape {
-            known: false,
-            alone: false,
-            one: One::Nothing,
-            two: Two::Nothing,
-        },
-    }
+    let (alone, one, two) = match family {
+        Family::Plain(_) => (true, None, None),
+        Family::Exchange => (true, Some(One::Place), None),
+        Family::Load { format, widths } => (false, Some(moved(format, widths)), None),
+        Family::Store(spec) => (false, Some(moved(spec.format, spec.widths)), None),
+        Family::StatusCompare { memory, .. } => (true, Some(compared(memory)), None),
+        Family::PairedCompare => (true, None, None),
+        Family::FlagCompare { .. } => (false, Some(One::Place), Some(Two::Second)),
+        Family::StoreStatus => (false, Some(One::AxOr(Widths::StatusWidth)), None),
+        Family::ConditionalMove(_) => (false, None, Some(Two::TopAnd)),
+        Family::IntegerArith { .. } => (false, Some(One::Memory(Widths::IntArith)), None),
+        Family::IntegerCompare { .. } => (false, Some(One::Memory(Widths::IntArith)), None),
+        Family::Arith { pop, .. } => (pop, Some(popping(pop)), Some(Two::Places)),
+    };
+    Shape { alone, one, two }
 }
 
 // What a mnemonic takes.
-pub fn shape(s: &[u8]) -> Shape
-    ensures { result ≡ shape_of (family_of s.now) }
+pub fn shape(s: &[u8]) -> Option<Shape>
+    ensures { result ≡ option_map shape_of (family_of s.now) }
 {
-    let t = texts::trim(s);
-    shape_from(code_in(&NAMES, &CODES, key(t)))
+    family(s).map(shape_of)
 }

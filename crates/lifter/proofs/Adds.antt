@@ -5,8 +5,9 @@ use Rattle.lists.specs.declared.State.{State}
 use Rattle.lists.proofs.Adds.{Adds, same, more, gives-adds, exchange-adds}
 use Rattle.forms.specs.declared.Form.{Form}
 use Rattle.forms.specs.declared.Form.TheVariants.{PushConst, PushMemory, PushSlot, StoreMemory, StoreSlot, Arith, CompareStatus, CompareFlags, ConditionalMove, StoreStatus, Exchange, Unary}
-use Rattle.forms.specs.declared.Classified.{Classified}
-use Rattle.forms.specs.declared.Classified.TheVariants.{Modelled, Declined, BadText, BadOperands}
+use Rattle.forms.specs.Classify.{Classified}
+use Rattle.std.specs.Prelude.{Some, None, Ok, Err}
+use Rattle.forms.specs.declared.BadInstruction.TheVariants as bad
 use Rattle.lifter.specs.Apply.{apply_x87_of}
 use Rattle.lifter.specs.Lift.{lowered_of}
 use Rattle.memory.specs.declared.Site.{Site}
@@ -32,7 +33,7 @@ module _ (s : State) where
 
   pub lowered-adds : (classified : Classified) (detail : ℕ) (site : Site) → Adds s 46 5 (lowered_of s classified detail site)
   unfolding lowered_of
-  lowered-adds (Modelled form) detail site = apply-adds form site
-  lowered-adds Declined detail site = more (decline-adds s 1 site.address detail) (omega arith) (omega arith)
-  lowered-adds BadText detail site = more (gives-adds s s 3 (same s)) (omega arith) (omega arith)
-  lowered-adds BadOperands detail site = more (gives-adds s s 4 (same s)) (omega arith) (omega arith)
+  lowered-adds (Ok (Some form)) detail site = apply-adds form site
+  lowered-adds (Ok None) detail site = more (decline-adds s 1 site.address detail) (omega arith) (omega arith)
+  lowered-adds (Err bad.Text) detail site = more (gives-adds s s 3 (same s)) (omega arith) (omega arith)
+  lowered-adds (Err bad.Operands) detail site = more (gives-adds s s 4 (same s)) (omega arith) (omega arith)

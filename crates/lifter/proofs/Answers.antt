@@ -13,11 +13,12 @@ use Rattle.lists.specs.Stack.{write_of, overflows, push_of, exchange_of}
 use Rattle.lists.specs.declared.State.{State}
 use Rattle.forms.specs.declared.Form.{Form}
 use Rattle.forms.specs.declared.Form.TheVariants.{PushConst, PushMemory, PushSlot, StoreMemory, StoreSlot, Arith, CompareStatus, CompareFlags, ConditionalMove, StoreStatus, Exchange, Unary}
-use Rattle.forms.specs.declared.Classified.{Classified}
-use Rattle.forms.specs.declared.Classified.TheVariants.{Modelled, Declined, BadText, BadOperands}
+use Rattle.forms.specs.Classify.{Classified}
+use Rattle.std.specs.Prelude.{Some, None, Ok, Err}
+use Rattle.forms.specs.declared.BadInstruction.TheVariants as bad
 use Rattle.forms.specs.declared.Instruction.{Instruction}
 use Rattle.forms.specs.Classify.{classify_of}
-use Rattle.details.specs.Why.{why_of, detail_for, beside_of, detail_of}
+use Rattle.details.specs.Why.{why_of, detail_for, beside_of, detail_of, reason_for}
 use Rattle.memory.specs.declared.Site.{Site}
 use Rattle.memory.specs.Site.{site_of}
 use Rattle.memory.specs.Memory.{write_dst_of, x87_store_memory_of, x87_store_status_of}
@@ -60,11 +61,11 @@ module _ (test : ℕ → Bool) (zero-so : test 0 ≡ true) (two-so : test 2 ≡ 
 
 -- The detail beside an answer of `classify` is all that is looked at
 pub detailed : (s : State) (c : Classified) (insn : Instruction) (site : Site) → lowered_of s c (detail_for c insn) site ≡ lowered_of s c (why_of insn) site
-unfolding lowered_of detail_for
-detailed s (Modelled form) insn site = refl
-detailed s Declined insn site = refl
-detailed s BadText insn site = refl
-detailed s BadOperands insn site = refl
+unfolding lowered_of detail_for reason_for why_of
+detailed s (Ok (Some form)) insn site = refl
+detailed s (Ok None) insn site = refl
+detailed s (Err bad.Text) insn site = refl
+detailed s (Err bad.Operands) insn site = refl
 
 -- An answer that is not 1 has no detail beside it, whatever is offered
 not-one : ℕ → Bool
@@ -99,11 +100,11 @@ module _ (s : State) (n m : List ℕ) where
   -- THE DETAIL BESIDE A LIFT: what `classify` has beside its answer is told where the lift answers 1
   told : (c : Classified) (insn : Instruction) (site : Site)
       → beside_of (placed_of s c (why_of insn) site n m).val (detail_for c insn) ≡ beside_of (placed_of s c (why_of insn) site n m).val (why_of insn)
-  unfolding lowered_of gives detail_for not-one
-  told (Modelled form) insn site = placed-silent (Modelled form) (why_of insn) site 0 (apply-answers not-one refl refl s form site)
-  told Declined insn site = refl
-  told BadText insn site = placed-silent BadText (why_of insn) site 0 refl
-  told BadOperands insn site = placed-silent BadOperands (why_of insn) site 0 refl
+  unfolding lowered_of gives detail_for reason_for why_of not-one
+  told (Ok (Some form)) insn site = placed-silent (Ok (Some form)) (why_of insn) site 0 (apply-answers not-one refl refl s form site)
+  told (Ok None) insn site = refl
+  told (Err bad.Text) insn site = placed-silent (Err bad.Text) (why_of insn) site 0 refl
+  told (Err bad.Operands) insn site = placed-silent (Err bad.Operands) (why_of insn) site 0 refl
 
   pub lift-told : (insn : Instruction) → beside_of (lift_of s insn n m).val (detail_for (classify_of insn) insn) ≡ detail_of (lift_of s insn n m).val insn
   unfolding lift_of detail_of

@@ -6,8 +6,9 @@ use Rattle.lists.specs.Valid.{valid_of}
 use Rattle.lists.specs.declared.State.{State}
 use Rattle.forms.specs.Classify.{classify_of}
 use Rattle.forms.specs.declared.Instruction.{Instruction}
-use Rattle.forms.specs.declared.Classified.{Classified}
-use Rattle.forms.specs.declared.Classified.TheVariants.{Modelled, Declined, BadText, BadOperands}
+use Rattle.forms.specs.Classify.{Classified}
+use Rattle.std.specs.Prelude.{Some, None, Ok, Err}
+use Rattle.forms.specs.declared.BadInstruction.TheVariants as bad
 use Rattle.details.specs.Why.{why_of, detail_of}
 use Rattle.memory.specs.Site.{site_of}
 use Rattle.lifter.specs.Apply.{apply_x87_of}
@@ -16,10 +17,10 @@ use Rattle.memory.specs.declared.Site.{Site}
 
 -- What an instruction comes to over lists of any length: 0 or 2, 1 with this detail, 3, 4
 unfoldable pub lowered_of : State → Classified → ℕ → Site → Built
-lowered_of s (Modelled form) detail site = apply_x87_of s form site
-lowered_of s Declined detail site = decline_x87_of s 1 site.address detail
-lowered_of s BadText detail site = gives s 3
-lowered_of s BadOperands detail site = gives s 4
+lowered_of s (Ok (Some form)) detail site = apply_x87_of s form site
+lowered_of s (Ok None) detail site = decline_x87_of s 1 site.address detail
+lowered_of s (Err bad.Text) detail site = gives s 3
+lowered_of s (Err bad.Operands) detail site = gives s 4
 
 -- Nothing is done where the whole does not fit: 6 for the nodes, 7 for the statements
 unfoldable pub fitting_of : Built → State → List ℕ → List ℕ → Built

@@ -7,7 +7,7 @@ ghost use Rattle.lists.specs.Steps.{Does};
 ghost use Rattle.lifter.specs.Apply.{apply_x87_of};
 ghost use Rattle.lifter.specs.Lift.{lowered_of, fitting_of, placed_of, lift_of, Lifts};
 
-use forms::{Classified, Form, Instruction};
+use forms::{BadInstruction, Classified, Form, Instruction};
 use lists::State;
 use memory::{Done, Site};
 
@@ -68,13 +68,13 @@ fn lower(
     ensures { Does (lowered_of s classified detail site) result.state result.answer nodes.old nodes.new statements.old statements.new }
 {
     match classified {
-        Classified::Modelled(form) => apply_x87(nodes, statements, s, form, site),
-        Classified::Declined => moves::decline_x87(statements, s, 1, site.address, detail),
-        Classified::BadText => Done {
+        Ok(Some(form)) => apply_x87(nodes, statements, s, form, site),
+        Ok(None) => moves::decline_x87(statements, s, 1, site.address, detail),
+        Err(BadInstruction::Text) => Done {
             state: s,
             answer: 3,
         },
-        Classified::BadOperands => Done {
+        Err(BadInstruction::Operands) => Done {
             state: s,
             answer: 4,
         },
@@ -160,8 +160,8 @@ pub fn lift_classified(
 pub fn lift(nodes: &mut [u64], statements: &mut [u64], s: State, insn: Instruction) -> Lifted
     ensures { Lifts (lift_of s insn nodes.old statements.old) insn result.state result.answer result.detail nodes.old nodes.new statements.old statements.new }
 {
-    let classified = forms::classify(insn);
-    let detail = details::detail(classified, insn);
+    let classified = forms::classify(&insn);
+    let detail = details::number(details::detail(classified, &insn));
     let site = memory::site_of(insn);
     let done = lift_classified(nodes, statements, s, classified, detail, site);
     let state = done.state;

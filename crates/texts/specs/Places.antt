@@ -1,39 +1,37 @@
 -- The place on the stack that a text names: `st(`, an optional `+`, one or more digits, `)`, of value 0 to 7.
-use Rattle.std.specs.Prelude.{cond, List, [], ◌∷◌, ℕ, ◌+◌, ◌*◌, ◌-◌, leb, ltb, eqb}
+use Rattle.std.specs.Prelude.{Bool, cond, ◌&&◌, List, [], ◌∷◌, ℕ, ◌+◌, ◌*◌, ◌-◌, leb, eqb, Option, Some, None}
 use Rattle.texts.specs.Bytes.{bytes}
 use Rattle.texts.specs.Letters.{lower_of, trim_of}
-use Rattle.texts.specs.declared.Place.{Place}
-use Rattle.texts.specs.declared.Place.TheVariants.{At, Nowhere}
 
--- a digit's number, or 10
-abbrev pub digit_of : ℕ → ℕ
-digit_of b = cond (leb 48 b) (cond (leb b 57) (b - 48) 10) 10
+-- bytes 48 to 57
+abbrev pub digit_is : ℕ → Bool
+digit_is b = leb 48 b && leb b 57
 
 -- `)` was the last byte, and the number is 0 to 7
-abbrev pub closed : ℕ → List ℕ → Place
-closed v [] = cond (leb v 7) (At v) Nowhere
-closed v (b ∷ s) = Nowhere
+abbrev pub closed : ℕ → List ℕ → Option ℕ
+closed v [] = cond (leb v 7) (Some v) None
+closed v (b ∷ s) = None
 
 -- further digits, then `)`
-abbrev pub digits : ℕ → List ℕ → Place
-digits v [] = Nowhere
-digits v (b ∷ s) = cond (ltb (digit_of b) 10) (digits (v * 10 + digit_of b) s) (cond (eqb b 41) (closed v s) Nowhere)
+abbrev pub digits : ℕ → List ℕ → Option ℕ
+digits v [] = None
+digits v (b ∷ s) = cond (digit_is b) (digits (v * 10 + (b - 48)) s) (cond (eqb b 41) (closed v s) None)
 
 -- one digit at least
-abbrev pub number : List ℕ → Place
-number [] = Nowhere
-number (b ∷ s) = cond (ltb (digit_of b) 10) (digits (digit_of b) s) Nowhere
+abbrev pub number : List ℕ → Option ℕ
+number [] = None
+number (b ∷ s) = cond (digit_is b) (digits (b - 48) s) None
 
 -- an optional `+`
-abbrev pub signed : List ℕ → Place
-signed [] = Nowhere
+abbrev pub signed : List ℕ → Option ℕ
+signed [] = None
 signed (b ∷ s) = cond (eqb b 43) (number s) (number (b ∷ s))
 
 -- the small letters p, in either case, and then what k reads
-abbrev pub after : List ℕ → (List ℕ → Place) → List ℕ → Place
+abbrev pub after : List ℕ → (List ℕ → Option ℕ) → List ℕ → Option ℕ
 after [] k s = k s
-after (b ∷ p) k [] = Nowhere
-after (b ∷ p) k (x ∷ s) = cond (eqb (lower_of x) b) (after p k s) Nowhere
+after (b ∷ p) k [] = None
+after (b ∷ p) k (x ∷ s) = cond (eqb (lower_of x) b) (after p k s) None
 
-unfoldable pub place_of : List ℕ → Place
+unfoldable pub place_of : List ℕ → Option ℕ
 place_of s = after (bytes "st(") signed (trim_of s)

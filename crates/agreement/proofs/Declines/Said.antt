@@ -10,8 +10,9 @@ use Rattle.lists.specs.Nodes.{statement_of}
 use Rattle.lists.specs.Stack.{havoc_of}
 use Rattle.forms.specs.Classify.{classify_of}
 use Rattle.forms.specs.declared.Instruction.{Instruction}
-use Rattle.forms.specs.declared.Classified.{Classified}
-use Rattle.forms.specs.declared.Classified.TheVariants.{Modelled, Declined, BadText, BadOperands}
+use Rattle.forms.specs.Classify.{Classified}
+use Rattle.std.specs.Prelude.{Some, None, Ok, Err}
+use Rattle.forms.specs.declared.BadInstruction.TheVariants as bad
 use Rattle.details.specs.Why.{why_of, detail_of}
 use Rattle.memory.specs.Site.{site_of}
 use Rattle.moves.specs.Pushes.{decline_x87_of}
@@ -38,10 +39,10 @@ module _ (h : Held) (i : Instruction) where
 
   lowered : (c : Classified) → Says (lowered_of h.st c (why_of i) (site_of i))
   unfolding lowered_of decline_x87_of statement_of havoc_of gives other ◌▸◌
-  lowered (Modelled form) e = let z : ◌≡◌ {A = Bool} false true = rw (not-other _ e) at (apply-answers other refl refl h.st form (site_of i)) in absurd (false≢true z)
-  lowered Declined e = refl
-  lowered BadText e = refused 3 (omega arith) e
-  lowered BadOperands e = refused 4 (omega arith) e
+  lowered (Ok (Some form)) e = let z : ◌≡◌ {A = Bool} false true = rw (not-other _ e) at (apply-answers other refl refl h.st form (site_of i)) in absurd (false≢true z)
+  lowered (Ok None) e = refl
+  lowered (Err bad.Text) e = refused 3 (omega arith) e
+  lowered (Err bad.Operands) e = refused 4 (omega arith) e
 
   -- THE STATEMENT
   pub says : answered h i ≡ 1 → (lift_of h.st i h.nodes h.statements).ss ≡ row h.st.statements 6 1 i.address (detail_of (answered h i) i) ∷ []

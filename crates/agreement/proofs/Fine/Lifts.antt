@@ -18,8 +18,9 @@ use Rattle.forms.specs.declared.UnaryOp.{UnaryOp}
 use Rattle.forms.specs.declared.Form.{Form}
 use Rattle.forms.specs.declared.Form.TheVariants.{PushConst, PushMemory, PushSlot, StoreMemory, StoreSlot, Arith, CompareStatus, CompareFlags, ConditionalMove, StoreStatus, Exchange, Unary}
 use Rattle.forms.specs.declared.Instruction.{Instruction}
-use Rattle.forms.specs.declared.Classified.{Classified}
-use Rattle.forms.specs.declared.Classified.TheVariants.{Modelled, Declined, BadText, BadOperands}
+use Rattle.forms.specs.Classify.{Classified}
+use Rattle.std.specs.Prelude.{Some, None, Ok, Err}
+use Rattle.forms.specs.declared.BadInstruction.TheVariants as bad
 use Rattle.forms.specs.Classify.{classify_of}
 use Rattle.details.specs.Why.{why_of}
 use Rattle.exprs.specs.Formats.{format_of, is_image}
@@ -280,7 +281,7 @@ unfolding lowered_of
 lowered-fine i s = way (classify_of i) refl
   where
     way : (c : Classified) → classify_of i ≡ c → Fine s [] 0 (lowered_of s c (why_of i) (site_of i))
-    way (Modelled form) e = apply-fine i s form (classify-fits i form e)
-    way Declined e = decline s 1 i.address (why_of i) (detail-listed i e)
-    way BadText e = still 3 [] (λ Γ p h. p)
-    way BadOperands e = still 4 [] (λ Γ p h. p)
+    way (Ok (Some form)) e = apply-fine i s form (classify-fits i form e)
+    way (Ok None) e = decline s 1 i.address (why_of i) (detail-listed i e)
+    way (Err bad.Text) e = still 3 [] (λ Γ p h. p)
+    way (Err bad.Operands) e = still 4 [] (λ Γ p h. p)

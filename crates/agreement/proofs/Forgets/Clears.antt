@@ -12,8 +12,9 @@ use Rattle.lists.specs.declared.State.{State}
 use Rattle.forms.specs.declared.Form.{Form}
 use Rattle.forms.specs.declared.Form.TheVariants.{PushConst, PushMemory, PushSlot, StoreMemory, StoreSlot, Arith, CompareStatus, CompareFlags, ConditionalMove, StoreStatus, Exchange, Unary}
 use Rattle.forms.specs.declared.Instruction.{Instruction}
-use Rattle.forms.specs.declared.Classified.{Classified}
-use Rattle.forms.specs.declared.Classified.TheVariants.{Modelled, Declined, BadText, BadOperands}
+use Rattle.forms.specs.Classify.{Classified}
+use Rattle.std.specs.Prelude.{Some, None, Ok, Err}
+use Rattle.forms.specs.declared.BadInstruction.TheVariants as bad
 use Rattle.forms.specs.Classify.{classify_of}
 use Rattle.details.specs.Why.{why_of}
 use Rattle.memory.specs.Memory.{write_dst_of, x87_store_memory_of, x87_store_status_of}
@@ -70,10 +71,10 @@ module _ (i : Instruction) (s : State) where
 
   lowered-clears : (c : Classified) → Clears (lowered_of s c (why_of i) (site_of i))
   unfolding lowered_of decline_x87_of statement_of havoc_of gives ◌▸◌
-  lowered-clears (Modelled form) = apply-clears form
-  lowered-clears Declined = λ e. refl
-  lowered-clears BadText = never
-  lowered-clears BadOperands = never
+  lowered-clears (Ok (Some form)) = apply-clears form
+  lowered-clears (Ok None) = λ e. refl
+  lowered-clears (Err bad.Text) = never
+  lowered-clears (Err bad.Operands) = never
 
 module _ (i : Instruction) (h : Held) where
   pub decline-clears : declines (answered h i) ≡ true → (called h i).st.depth ≡ 0

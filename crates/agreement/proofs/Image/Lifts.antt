@@ -15,7 +15,7 @@ use Rattle.exprs.specs.Formats.{is_image}
 use Rattle.exprs.specs.Image.{extended_to_memory_of}
 use Rattle.exprs.specs.Slots.{from_slot_of}
 use Rattle.forms.specs.Classify.{classify_of}
-use Rattle.forms.specs.declared.Classified.TheVariants.{Modelled}
+use Rattle.std.specs.Prelude.{Some, Ok}
 use Rattle.forms.specs.declared.Form.TheVariants.{PushMemory, StoreMemory}
 use Rattle.forms.specs.declared.Instruction.{Instruction}
 use Rattle.forms.specs.declared.MemFormat.TheVariants.{Float}
@@ -88,7 +88,7 @@ module _ (s : State) (i : Instruction) (nodes statements g : List ℕ) where
   words = wrote nodes lift.ns
 
   -- `fld` AT 80 READS AS `image` DOES: its free pattern is the value of the free input that the load adds
-  pub fld-80 : classify_of i ≡ Modelled (PushMemory 80 Float) → lift.val ≡ 0 → pair_at g s.nodes < 2 ^ 80 → Loads s i lift words g
+  pub fld-80 : classify_of i ≡ Ok (Some (PushMemory 80 Float)) → lift.val ≡ 0 → pair_at g s.nodes < 2 ^ 80 → Loads s i lift words g
   unfolding apply_x87_of
   fld-80 c z k =
       let a = applied s i nodes statements (PushMemory 80 Float) c z in
@@ -97,7 +97,7 @@ module _ (s : State) (i : Instruction) (nodes statements g : List ℕ) where
       (subst (λ (d : Built). d.val ≡ 0) a.same z) (subst (λ (d : Built). InWords (wrote nodes d.ns) d.ns) a.same a.stands))
 
   -- `fstp` AT 80 WRITES AS `image` DOES
-  pub fstp-80 : (pop : Bool) (r : RoundingMode) → classify_of i ≡ Modelled (StoreMemory 80 Float pop r) → (site_of i).register ≡ false → lift.val ≡ 0
+  pub fstp-80 : (pop : Bool) (r : RoundingMode) → classify_of i ≡ Ok (Some (StoreMemory 80 Float pop r)) → (site_of i).register ≡ false → lift.val ≡ 0
       → get_or (sorts words lift.st.nodes) (read_of s 0).val 0 ≡ 79 → get_or (vals words g lift.st.nodes) (read_of s 0).val 0 < 2 ^ 79
       → Stores s i lift words g
   unfolding apply_x87_of

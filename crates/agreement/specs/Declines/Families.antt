@@ -1,16 +1,14 @@
 -- Family by family: what it makes of its operands is a decline exactly if they have a detail
-use Rattle.std.specs.Prelude.{◌≡◌, Bool, cond, ◌&&◌, List, ℕ}
+use Rattle.std.specs.Prelude.{◌≡◌, Bool, cond, ◌&&◌, List, ℕ, Option, Some, None, option_map, is_some, is_none}
+use Rattle.details.specs.declared.Reason.{Reason}
+use Rattle.details.specs.declared.Reason.TheVariants.{WrongKind}
 use Rattle.std.proofs.Math.Path.{refl, ap}
 use Rattle.std.proofs.Common.{sym, ◌∙◌, true≢false}
-use Rattle.std.proofs.Math.Bool.{true, false, not}
+use Rattle.std.proofs.Math.Bool.{true, false}
 use Rattle.std.proofs.Math.Dec.{eqb}
 use Rattle.texts.specs.Bytes.{bytes_of}
 use Rattle.texts.specs.Places.{place_of}
-use Rattle.texts.specs.declared.Place.{Place}
-use Rattle.texts.specs.declared.Place.TheVariants.{At, Nowhere}
 use Rattle.forms.specs.declared.Operand.{Operand}
-use Rattle.forms.specs.declared.Width.{Width}
-use Rattle.forms.specs.declared.Width.TheVariants.{Bits, Unmodelled}
 use Rattle.forms.specs.declared.Widths.{Widths}
 use Rattle.forms.specs.declared.Widths.TheVariants.{FloatShort, IntArith, StatusWidth}
 use Rattle.forms.specs.declared.MemFormat.{MemFormat}
@@ -20,13 +18,12 @@ use Rattle.forms.specs.declared.MemorySource.TheVariants.{Allowed, Forbidden}
 use Rattle.forms.specs.declared.StoreSpec.{StoreSpec}
 use Rattle.forms.specs.declared.X87Arith.{X87Arith}
 use Rattle.forms.specs.declared.X87Condition.{X87Condition}
-use Rattle.forms.specs.declared.Classified.{Classified}
-use Rattle.forms.specs.declared.Classified.TheVariants.{Modelled, Declined, BadText, BadOperands}
+use Rattle.forms.specs.declared.Form.{Form}
 use Rattle.forms.specs.declared.Form.TheVariants.{StoreStatus}
 use Rattle.forms.specs.declared.Family.{Family}
 use Rattle.forms.specs.declared.Family.TheVariants as family
 use Rattle.forms.specs.Operands.{slot_of, width_of, takes_of, widths_of, ax_of, operands_of}
-use Rattle.forms.specs.Families.{exchange_at, load_at, store_at, status_at, flag_at, conditional_at, status_to, store_status_at, integer_arith_of, integer_compare_of, arith_one, arith_two, form_of}
+use Rattle.forms.specs.Families.{exchange_at, load_at, store_at, status_at, flag_at, conditional_at, status_to, store_status_at, integer_arith_of, integer_compare_of, arith_one, arith_two, form_of, made_of}
 use Rattle.forms.specs.Shapes.{moved_one, compared_one, shape_of}
 use Rattle.details.specs.Takes.{place, st0, memory, place-or, ax-or, places, st0-alone}
 use Rattle.details.specs.Why.{place_is, top_is}
@@ -34,97 +31,94 @@ use Rattle.details.specs.Inside.{why_one, why_two, memory_why, both_of, why_only
 use Rattle.details.proofs.Operands.{kinds, memory-why, place-why, st0-why, place-or-why, ax-or-why, two-why}
 use Rattle.details.proofs.Shapes.{by_number}
 
-abbrev pub declined_is : Classified → Bool
-declined_is (Modelled f) = false
-declined_is Declined = true
-declined_is BadText = false
-declined_is BadOperands = false
+abbrev pub declined_is : Option Form → Bool
+declined_is made = is_none made
 
--- a detail is there
-unfoldable pub some_is : ℕ → Bool
-some_is k = not (eqb k 0)
+-- a reason is there
+unfoldable pub some_is : Option Reason → Bool
+some_is k = is_some k
 
 module _ (o : Operand) where
   -- where a place is taken
-  of-place : (at : Place → Classified) → ((i : ℕ) → declined_is (at (At i)) ≡ false) → declined_is (at Nowhere) ≡ true → declined_is (at (slot_of o)) ≡ some_is (why_one place o)
+  of-place : (at : Option ℕ → Option Form) → ((i : ℕ) → declined_is (at (Some i)) ≡ false) → declined_is (at None) ≡ true → declined_is (at (slot_of o)) ≡ some_is (why_one place o)
   unfolding some_is
   of-place at taken left = rw (place-why o) (way (slot_of o))
     where
-      way : (p : Place) → declined_is (at p) ≡ not (eqb (cond (place_is p) 0 23) 0)
-      way (At i) = taken i
-      way Nowhere = left
+      way : (p : Option ℕ) → declined_is (at p) ≡ is_some (cond (place_is p) None (Some WrongKind))
+      way (Some i) = taken i
+      way None = left
 
   -- where memory is
-  of-memory : (ws : Widths) (at : Width → Classified) → ((w : ℕ) → declined_is (at (Bits w)) ≡ false) → declined_is (at Unmodelled) ≡ true
+  of-memory : (ws : Widths) (at : Option ℕ → Option Form) → ((w : ℕ) → declined_is (at (Some w)) ≡ false) → declined_is (at None) ≡ true
       → declined_is (at (width_of ws o)) ≡ some_is (why_one (memory (widths_of ws)) o)
   unfolding some_is width_of
   of-memory ws at taken left = rw (memory-why o ws) (way (eqb o.kind 1) (eqb o.known 1) (takes_of ws o.width))
     where
-      way : (m k t : Bool) → declined_is (at (cond (m && (k && t)) (Bits o.width) Unmodelled)) ≡ not (eqb (cond m (memory_why k t) 23) 0)
+      way : (m k t : Bool) → declined_is (at (cond (m && (k && t)) (Some o.width) None)) ≡ is_some (cond m (memory_why k t) (Some WrongKind))
       way true true true = taken o.width
       way true true false = left
       way true false t = left
       way false k t = left
 
   -- where either is; where memory is, and a register is declined
-  of_either : (ws : Widths) (at : Place → Width → Classified) → ((i : ℕ) (w : Width) → declined_is (at (At i) w) ≡ false) → ((w : ℕ) → declined_is (at Nowhere (Bits w)) ≡ false)
-      → declined_is (at Nowhere Unmodelled) ≡ true → declined_is (at (slot_of o) (width_of ws o)) ≡ some_is (why_one (place-or (widths_of ws)) o)
+  of_either : (ws : Widths) (at : Option ℕ → Option ℕ → Option Form) → ((i : ℕ) (w : Option ℕ) → declined_is (at (Some i) w) ≡ false) → ((w : ℕ) → declined_is (at None (Some w)) ≡ false)
+      → declined_is (at None None) ≡ true → declined_is (at (slot_of o) (width_of ws o)) ≡ some_is (why_one (place-or (widths_of ws)) o)
   unfolding some_is width_of slot_of
   of_either ws at taken fits left = rw (place-or-why o ws, place-why o, memory-why o ws) (way (eqb o.kind 0) (eqb o.kind 1) (eqb o.known 1) (takes_of ws o.width) (place_of (bytes_of o.text)) (kinds o))
     where
-      way : (r m k t : Bool) (p : Place) → (r ≡ true → m ≡ false) → declined_is (at (cond r p Nowhere) (cond (m && (k && t)) (Bits o.width) Unmodelled))
-          ≡ not (eqb (cond r (cond (place_is (cond r p Nowhere)) 0 23) (cond m (memory_why k t) 23)) 0)
+      way : (r m k t : Bool) (p : Option ℕ) → (r ≡ true → m ≡ false) → declined_is (at (cond r p None) (cond (m && (k && t)) (Some o.width) None))
+          ≡ is_some (cond r (cond (place_is (cond r p None)) None (Some WrongKind)) (cond m (memory_why k t) (Some WrongKind)))
       way true true k t p h = absurd (true≢false (h refl))
-      way true false k t (At i) h = taken i _
-      way true false k t Nowhere h = left
+      way true false k t (Some i) h = taken i _
+      way true false k t None h = left
       way false true true true p h = fits o.width
       way false true true false p h = left
       way false true false t p h = left
       way false false k t p h = left
 
-  of-integer : (ws : Widths) (at : Place → Width → Classified) → ((i : ℕ) (w : Width) → declined_is (at (At i) w) ≡ true) → ((w : ℕ) → declined_is (at Nowhere (Bits w)) ≡ false)
-      → declined_is (at Nowhere Unmodelled) ≡ true → declined_is (at (slot_of o) (width_of ws o)) ≡ some_is (why_one (memory (widths_of ws)) o)
+  of-integer : (ws : Widths) (at : Option ℕ → Option ℕ → Option Form) → ((i : ℕ) (w : Option ℕ) → declined_is (at (Some i) w) ≡ true) → ((w : ℕ) → declined_is (at None (Some w)) ≡ false)
+      → declined_is (at None None) ≡ true → declined_is (at (slot_of o) (width_of ws o)) ≡ some_is (why_one (memory (widths_of ws)) o)
   unfolding some_is width_of slot_of
   of-integer ws at never fits left = rw (memory-why o ws) (way (eqb o.kind 0) (eqb o.kind 1) (eqb o.known 1) (takes_of ws o.width) (place_of (bytes_of o.text)) (kinds o))
     where
-      way : (r m k t : Bool) (p : Place) → (r ≡ true → m ≡ false) → declined_is (at (cond r p Nowhere) (cond (m && (k && t)) (Bits o.width) Unmodelled)) ≡ not (eqb (cond m (memory_why k t) 23) 0)
+      way : (r m k t : Bool) (p : Option ℕ) → (r ≡ true → m ≡ false) → declined_is (at (cond r p None) (cond (m && (k && t)) (Some o.width) None)) ≡ is_some (cond m (memory_why k t) (Some WrongKind))
       way true true k t p h = absurd (true≢false (h refl))
-      way true false k t (At i) h = never i _
-      way true false k t Nowhere h = left
+      way true false k t (Some i) h = never i _
+      way true false k t None h = left
       way false true true true p h = fits o.width
       way false true true false p h = left
       way false true false t p h = left
       way false false k t p h = left
 
-  loads : (f : MemFormat) (ws : Widths) → declined_is (load_at f (slot_of o) (width_of ws o)) ≡ some_is (why_only (moved_one f ws) o)
+  loads : (f : MemFormat) (ws : Widths) → declined_is (load_at f (slot_of o) (width_of ws o)) ≡ some_is (why_only (Some (moved_one f ws)) o)
   unfolding why_only
   loads Float ws = of_either ws (load_at Float) (λ i w. refl) (λ w. refl) refl
   loads Integer ws = of-integer ws (load_at Integer) (λ i w. refl) (λ w. refl) refl
 
-  stores : (spec : StoreSpec) → declined_is (store_at spec (slot_of o) (width_of spec.widths o)) ≡ some_is (why_only (moved_one spec.format spec.widths) o)
+  stores : (spec : StoreSpec) → declined_is (store_at spec (slot_of o) (width_of spec.widths o)) ≡ some_is (why_only (Some (moved_one spec.format spec.widths)) o)
   unfolding why_only
   stores spec = way spec.format refl
     where
-      same : {f g : MemFormat} → f ≡ g → some_is (why_only (moved_one f spec.widths) o) ≡ some_is (why_only (moved_one g spec.widths) o)
-      same e = ap (λ (f : MemFormat). some_is (why_only (moved_one f spec.widths) o)) e
+      same : {f g : MemFormat} → f ≡ g → some_is (why_only (Some (moved_one f spec.widths)) o) ≡ some_is (why_only (Some (moved_one g spec.widths)) o)
+      same e = ap (λ (f : MemFormat). some_is (why_only (Some (moved_one f spec.widths)) o)) e
 
-      way : (f : MemFormat) → spec.format ≡ f → declined_is (store_at spec (slot_of o) (width_of spec.widths o)) ≡ some_is (why_only (moved_one spec.format spec.widths) o)
+      way : (f : MemFormat) → spec.format ≡ f → declined_is (store_at spec (slot_of o) (width_of spec.widths o)) ≡ some_is (why_only (Some (moved_one spec.format spec.widths)) o)
       way Float e = of_either spec.widths (store_at spec) (λ i w. rw e) (λ w. refl) refl ∙ same (sym e)
       way Integer e = of-integer spec.widths (store_at spec) (λ i w. rw e) (λ w. refl) refl ∙ same (sym e)
 
-  compares : (p : ℕ) (m : MemorySource) → declined_is (status_at p m (slot_of o) (width_of FloatShort o)) ≡ some_is (why_only (compared_one m) o)
+  compares : (p : ℕ) (m : MemorySource) → declined_is (status_at p m (slot_of o) (width_of FloatShort o)) ≡ some_is (why_only (Some (compared_one m)) o)
   unfolding why_only
   compares p Allowed = of_either FloatShort (status_at p Allowed) (λ i w. refl) (λ w. refl) refl
-  compares p Forbidden = of-place (λ (q : Place). status_at p Forbidden q (width_of FloatShort o)) (λ i. refl) refl
+  compares p Forbidden = of-place (λ (q : Option ℕ). status_at p Forbidden q (width_of FloatShort o)) (λ i. refl) refl
 
   pops : (op : X87Arith) (rev : Bool) → declined_is (arith_one op rev true (slot_of o) (width_of FloatShort o)) ≡ some_is (why_one place o)
-  pops op rev = of-place (λ (q : Place). arith_one op rev true q (width_of FloatShort o)) (λ i. refl) refl
+  pops op rev = of-place (λ (q : Option ℕ). arith_one op rev true q (width_of FloatShort o)) (λ i. refl) refl
 
   status-stores : declined_is (store_status_at o) ≡ some_is (why_one (ax-or (widths_of StatusWidth)) o)
   unfolding some_is store_status_at
   status-stores = rw (ax-or-why o StatusWidth) (way (eqb o.kind 0) (ax_of (bytes_of o.text)))
     where
-      way : (r t : Bool) → declined_is (cond r (cond t (Modelled StoreStatus) Declined) (status_to (width_of StatusWidth o))) ≡ not (eqb (cond r (cond t 0 23) (why_one (memory (widths_of StatusWidth)) o)) 0)
+      way : (r t : Bool) → declined_is (cond r (cond t (Some StoreStatus) None) (status_to (width_of StatusWidth o))) ≡ is_some (cond r (cond t None (Some WrongKind)) (why_one (memory (widths_of StatusWidth)) o))
       way true true = refl
       way true false = refl
       way false t = of-memory StatusWidth status_to (λ w. refl) refl
@@ -135,29 +129,29 @@ module _ (a b : Operand) where
   unfolding some_is
   moves k = rw (two-why st0-alone places a b, st0-why a, place-why b) (way (slot_of a) (slot_of b))
     where
-      top : (t : Bool) (d : ℕ) → eqb d 0 ≡ t → (q : Place) → declined_is (conditional_at k (At d) q) ≡ not (eqb (both_of (cond t 0 23) (cond (place_is q) 0 23)) 0)
-      top true d e (At i) = rw e
-      top true d e Nowhere = refl
-      top false d e (At i) = rw e
-      top false d e Nowhere = refl
+      top : (t : Bool) (d : ℕ) → eqb d 0 ≡ t → (q : Option ℕ) → declined_is (conditional_at k (Some d) q) ≡ is_some (both_of (cond t None (Some WrongKind)) (cond (place_is q) None (Some WrongKind)))
+      top true d e (Some i) = rw e
+      top true d e None = refl
+      top false d e (Some i) = rw e
+      top false d e None = refl
 
-      way : (p q : Place) → declined_is (conditional_at k p q) ≡ not (eqb (both_of (cond (top_is p) 0 23) (cond (place_is q) 0 23)) 0)
-      way (At d) q = top (eqb d 0) d refl q
-      way Nowhere q = refl
+      way : (p q : Option ℕ) → declined_is (conditional_at k p q) ≡ is_some (both_of (cond (top_is p) None (Some WrongKind)) (cond (place_is q) None (Some WrongKind)))
+      way (Some d) q = top (eqb d 0) d refl q
+      way None q = refl
 
   pairs : (op : X87Arith) (rev pop : Bool) → declined_is (arith_two op rev pop (slot_of a) (slot_of b)) ≡ some_is (why_two place place a b)
   unfolding some_is
   pairs op rev pop = rw (two-why places places a b, place-why a, place-why b) (way (slot_of a) (slot_of b))
     where
-      way : (p q : Place) → declined_is (arith_two op rev pop p q) ≡ not (eqb (both_of (cond (place_is p) 0 23) (cond (place_is q) 0 23)) 0)
-      way (At d) (At i) = refl
-      way (At d) Nowhere = refl
-      way Nowhere q = refl
+      way : (p q : Option ℕ) → declined_is (arith_two op rev pop p q) ≡ is_some (both_of (cond (place_is p) None (Some WrongKind)) (cond (place_is q) None (Some WrongKind)))
+      way (Some d) (Some i) = refl
+      way (Some d) None = refl
+      way None q = refl
 
 -- EVERY FAMILY, of any number of operands
 module _ (os : List Operand) where
   Exact : Family → ℕ → Type 0
-  Exact f n = declined_is (form_of f (operands_of n os)) ≡ some_is (why_by (shape_of f) n os)
+  Exact f n = declined_is (form_of f (operands_of n os)) ≡ some_is (why_by (Some (shape_of f)) n os)
 
   exact : (f : Family) (n : ℕ) → Exact f n
   unfolding Exact form_of shape_of why_by why_only why_pair some_is
@@ -175,8 +169,8 @@ module _ (os : List Operand) where
   exact (family.IntegerCompare p) n = by_number (Exact (family.IntegerCompare p)) refl (of-memory _ IntArith (integer_compare_of p) (λ w. refl) refl) refl (λ n a b c. rw (a, b, c)) n
   exact (family.Arith op rev true) n = by_number (Exact (family.Arith op rev true)) refl (pops _ op rev) (pairs _ _ op rev true) (λ n a b c. rw (a, b, c)) n
   exact (family.Arith op rev false) n = by_number (Exact (family.Arith op rev false)) refl (of_either _ FloatShort (arith_one op rev false) (λ i w. refl) (λ w. refl) refl) (pairs _ _ op rev false) (λ n a b c. rw (a, b, c)) n
-  exact family.Unknown n = refl
 
-pub exactly : (f : Family) (n : ℕ) (os : List Operand) → declined_is (form_of f (operands_of n os)) ≡ some_is (why_by (shape_of f) n os)
-unfolding Exact
-exactly f n os = exact os f n
+pub exactly : (f : Option Family) (n : ℕ) (os : List Operand) → declined_is (made_of f (operands_of n os)) ≡ some_is (why_by (option_map shape_of f) n os)
+unfolding Exact why_by some_is
+exactly None n os = refl
+exactly (Some f) n os = exact os f n

@@ -1,19 +1,15 @@
 -- Every form that `classify` gives fits: by families, with one test of the table of names
-use Rattle.std.specs.Prelude.{◌≡◌, Bool, cond, ◌&&◌, List, [], ◌∷◌, ℕ, ◌+◌, ◌*◌, ◌^◌, leb, ltb, get_or, take}
+use Rattle.std.specs.Prelude.{◌≡◌, Bool, cond, ◌&&◌, List, [], ◌∷◌, ℕ, ◌+◌, ◌*◌, ◌-◌, ◌^◌, leb, ltb, get_or, take, Option, Some, None, Ok, Err}
 use Rattle.std.proofs.Math.Path.{refl}
-use Rattle.std.proofs.Common.{sym, subst, eqb-true, eq-eqb}
+use Rattle.std.proofs.Common.{arith, sym, subst, eqb-true, eq-eqb}
 use Rattle.std.proofs.Math.Bool.{true, false}
 use Rattle.std.proofs.lemmas.Bool.{false≢true}
 use Rattle.std.proofs.Math.Dec.{eqb}
 use Rattle.words.specs.Tests.{and_l, and_r, and_i, or_l, or_r, or_case}
 use Rattle.texts.specs.Bytes.{bytes, bytes_of, all, valid_of}
 use Rattle.texts.specs.Letters.{lower_of, trim_of, same_letters}
-use Rattle.texts.specs.Places.{digit_of, closed, digits, number, signed, after, place_of}
-use Rattle.texts.specs.declared.Place.{Place}
-use Rattle.texts.specs.declared.Place.TheVariants.{At, Nowhere}
+use Rattle.texts.specs.Places.{digit_is, closed, digits, number, signed, after, place_of}
 use Rattle.forms.specs.declared.Operand.{Operand}
-use Rattle.forms.specs.declared.Width.{Width}
-use Rattle.forms.specs.declared.Width.TheVariants.{Bits, Unmodelled}
 use Rattle.forms.specs.declared.Widths.{Widths}
 use Rattle.forms.specs.declared.Widths.TheVariants.{FloatShort, IntArith, StatusWidth}
 use Rattle.forms.specs.declared.MemFormat.{MemFormat}
@@ -26,40 +22,39 @@ use Rattle.forms.specs.declared.X87Condition.{X87Condition}
 use Rattle.forms.specs.declared.Form.{Form}
 use Rattle.forms.specs.declared.Form.TheVariants.{PushConst, PushMemory, PushSlot, StoreMemory, StoreSlot, Arith, CompareStatus, CompareFlags, ConditionalMove, StoreStatus, Exchange, Unary}
 use Rattle.forms.specs.declared.Instruction.{Instruction}
-use Rattle.forms.specs.declared.Classified.{Classified}
-use Rattle.forms.specs.declared.Classified.TheVariants.{Modelled, Declined, BadText, BadOperands}
+use Rattle.forms.specs.declared.BadInstruction.TheVariants as bad
 use Rattle.forms.specs.declared.Family.{Family}
 use Rattle.forms.specs.declared.Family.TheVariants as family
 use Rattle.forms.specs.Operands.{Operands, none, one, two, more, ranged_is, spelled_is, slot_of, width_of, widths_of, among, takes_of, ax_of, operands_of, no_operand}
 use Rattle.forms.specs.Names.{Name, names, find, family_of}
-use Rattle.forms.specs.Families.{load_at, store_slot, store_at, status_at, flag_at, exchange_at, conditional_at, status_to, store_status_at, integer_arith_of, integer_compare_of, arith_one, arith_two, form_of}
-use Rattle.forms.specs.Classify.{classify_of}
+use Rattle.forms.specs.Families.{load_at, store_slot, store_at, status_at, flag_at, exchange_at, conditional_at, status_to, store_status_at, integer_arith_of, integer_compare_of, arith_one, arith_two, form_of, made_of}
+use Rattle.forms.specs.Classify.{Classified, classify_of}
 use Rattle.agreement.specs.Fits.{memory_fits, is_memory, source_fits, form_fits, first_of}
 
 -- A place is 0 to 7
-PlaceFits : Place → Type 0
-PlaceFits (At i) = leb i 7 ≡ true
-PlaceFits Nowhere = Unit {0}
+PlaceFits : Option ℕ → Type 0
+PlaceFits (Some i) = leb i 7 ≡ true
+PlaceFits None = Unit {0}
 
-either : (P : Place → Type 0) (t : Bool) (x y : Place) → (t ≡ true → P x) → P y → P (cond t x y)
+either : (P : Option ℕ → Type 0) (t : Bool) (x y : Option ℕ) → (t ≡ true → P x) → P y → P (cond t x y)
 either P true x y f q = f refl
 either P false x y f q = q
 
 closed-fits : (v : ℕ) (s : List ℕ) → PlaceFits (closed v s)
 unfolding PlaceFits
-closed-fits v [] = either PlaceFits (leb v 7) (At v) Nowhere (λ e. e) tt
+closed-fits v [] = either PlaceFits (leb v 7) (Some v) None (λ e. e) tt
 closed-fits v (b ∷ s) = tt
 
 digits-fits : (v : ℕ) (s : List ℕ) → PlaceFits (digits v s)
 unfolding PlaceFits
 digits-fits v [] = tt
 digits-fits v (b ∷ s) =
-    either PlaceFits (ltb (digit_of b) 10) _ _ (λ _. digits-fits (v * 10 + digit_of b) s) (either PlaceFits (eqb b 41) _ _ (λ _. closed-fits v s) tt)
+    either PlaceFits (digit_is b) _ _ (λ _. digits-fits (v * 10 + (b - 48)) s) (either PlaceFits (eqb b 41) _ _ (λ _. closed-fits v s) tt)
 
 number_fits : (s : List ℕ) → PlaceFits (number s)
 unfolding PlaceFits
 number_fits [] = tt
-number_fits (b ∷ s) = either PlaceFits (ltb (digit_of b) 10) _ _ (λ _. digits-fits (digit_of b) s) tt
+number_fits (b ∷ s) = either PlaceFits (digit_is b) _ _ (λ _. digits-fits (b - 48) s) tt
 
 signed-fits : (s : List ℕ) → PlaceFits (signed s)
 unfolding PlaceFits
@@ -77,15 +72,15 @@ unfolding PlaceFits slot_of place_of
 slot-fits o = either PlaceFits (eqb o.kind 0) _ _ (λ _. after-fits (bytes "st(") (trim_of (bytes_of o.text))) tt
 
 -- A width is one that the table lists, and its operand's, which is memory
-WidthFits : Widths → Operand → Width → Type 0
-WidthFits ws o (Bits w) = (takes_of ws w ≡ true) × (is_memory o w ≡ true)
-WidthFits ws o Unmodelled = Unit {0}
+WidthFits : Widths → Operand → Option ℕ → Type 0
+WidthFits ws o (Some w) = (takes_of ws w ≡ true) × (is_memory o w ≡ true)
+WidthFits ws o None = Unit {0}
 
 width_fits : (ws : Widths) (o : Operand) → WidthFits ws o (width_of ws o)
 unfolding WidthFits width_of is_memory
 width_fits ws o = way (eqb o.kind 1) (eqb o.known 1) (takes_of ws o.width) refl refl
   where
-    way : (x y z : Bool) → eqb o.kind 1 ≡ x → takes_of ws o.width ≡ z → WidthFits ws o (cond (x && (y && z)) (Bits o.width) Unmodelled)
+    way : (x y z : Bool) → eqb o.kind 1 ≡ x → takes_of ws o.width ≡ z → WidthFits ws o (cond (x && (y && z)) (Some o.width) None)
     way true true true p q = (q, rw p (eq-eqb o.width o.width refl))
     way true true false p q = tt
     way true false z p q = tt
@@ -104,7 +99,7 @@ among-all f (x ∷ y ∷ l) w e h =
 widths_fit : Widths → MemFormat → Bool
 widths_fit ws format = all (λ (w : ℕ). memory_fits w format) (widths_of ws)
 
-taken-fits : (ws : Widths) (format : MemFormat) (o : Operand) (w : ℕ) → widths_fit ws format ≡ true → WidthFits ws o (Bits w) → (memory_fits w format && is_memory o w) ≡ true
+taken-fits : (ws : Widths) (format : MemFormat) (o : Operand) (w : ℕ) → widths_fit ws format ≡ true → WidthFits ws o (Some w) → (memory_fits w format && is_memory o w) ≡ true
 unfolding widths_fit WidthFits
 taken-fits ws format o w e h = and_i (memory_fits w format) (is_memory o w) (among-all (λ (x : ℕ). memory_fits x format) (widths_of ws) w e h.0) h.1
 
@@ -137,108 +132,110 @@ family_fits (family.ConditionalMove condition) = true
 family_fits (family.IntegerArith op reversed) = true
 family_fits (family.IntegerCompare pops) = true
 family_fits (family.Arith op reversed pop) = true
-family_fits family.Unknown = true
 
 -- THE TABLE OF NAMES: each family fits
 names-fit : all (λ (n : Name). family_fits n.family) names ≡ true
 unfolding names family_fits plain_fits widths_fit memory_fits
 names-fit = refl
 
-find-fits : (s : List ℕ) (ns : List Name) → all (λ (n : Name). family_fits n.family) ns ≡ true → family_fits (find s ns) ≡ true
-unfolding family_fits
+-- .. if there is one
+found_fits : Option Family → Bool
+found_fits None = true
+found_fits (Some f) = family_fits f
+
+find-fits : (s : List ℕ) (ns : List Name) → all (λ (n : Name). family_fits n.family) ns ≡ true → found_fits (find s ns) ≡ true
+unfolding found_fits family_fits
 find-fits s [] e = refl
 find-fits s (n ∷ ns) e = way (same_letters s n.text) (find-fits s ns (and_r (family_fits n.family) _ e))
   where
-    way : (t : Bool) → family_fits (find s ns) ≡ true → family_fits (cond t n.family (find s ns)) ≡ true
+    way : (t : Bool) → found_fits (find s ns) ≡ true → found_fits (cond t (Some n.family) (find s ns)) ≡ true
     way true h = and_l (family_fits n.family) _ e
     way false h = h
 
 -- An answer's form fits the first operand
-Fits : Operand → Classified → Type 0
-Fits o (Modelled f) = form_fits o f ≡ true
-Fits o Declined = Unit {0}
-Fits o BadText = Unit {0}
-Fits o BadOperands = Unit {0}
+Fits : Operand → Option Form → Type 0
+Fits o (Some f) = form_fits o f ≡ true
+Fits o None = Unit {0}
 
 module _ (o : Operand) where
-  exchange-fits : (p : Place) → PlaceFits p → Fits o (exchange_at p)
+  exchange-fits : (p : Option ℕ) → PlaceFits p → Fits o (exchange_at p)
   unfolding Fits form_fits PlaceFits
-  exchange-fits (At i) h = h
-  exchange-fits Nowhere h = tt
+  exchange-fits (Some i) h = h
+  exchange-fits None h = tt
 
-  load_fits : (format : MemFormat) (ws : Widths) (p : Place) (w : Width) → widths_fit ws format ≡ true → PlaceFits p → WidthFits ws o w → Fits o (load_at format p w)
+  load_fits : (format : MemFormat) (ws : Widths) (p : Option ℕ) (w : Option ℕ) → widths_fit ws format ≡ true → PlaceFits p → WidthFits ws o w → Fits o (load_at format p w)
   unfolding Fits form_fits PlaceFits
-  load_fits Float ws (At i) w e h k = h
-  load_fits Integer ws (At i) w e h k = tt
-  load_fits format ws Nowhere (Bits w) e h k = taken-fits ws format o w e k
-  load_fits format ws Nowhere Unmodelled e h k = tt
+  load_fits Float ws (Some i) w e h k = h
+  load_fits Integer ws (Some i) w e h k = tt
+  load_fits format ws None (Some w) e h k = taken-fits ws format o w e k
+  load_fits format ws None None e h k = tt
 
-  store-fits : (spec : StoreSpec) (p : Place) (w : Width) → widths_fit spec.widths spec.format ≡ true → PlaceFits p → WidthFits spec.widths o w
+  store-fits : (spec : StoreSpec) (p : Option ℕ) (w : Option ℕ) → widths_fit spec.widths spec.format ≡ true → PlaceFits p → WidthFits spec.widths o w
       → Fits o (store_at spec p w)
   unfolding Fits form_fits PlaceFits
-  store-fits spec (At i) w e h k = way spec.format
+  store-fits spec (Some i) w e h k = way spec.format
     where
       way : (f : MemFormat) → Fits o (store_slot f i spec.pop)
       way Float = h
       way Integer = tt
-  store-fits spec Nowhere (Bits w) e h k = taken-fits spec.widths spec.format o w e k
-  store-fits spec Nowhere Unmodelled e h k = tt
+  store-fits spec None (Some w) e h k = taken-fits spec.widths spec.format o w e k
+  store-fits spec None None e h k = tt
 
-  status-fits : (pops : ℕ) (m : MemorySource) (p : Place) (w : Width) → PlaceFits p → WidthFits FloatShort o w → Fits o (status_at pops m p w)
+  status-fits : (pops : ℕ) (m : MemorySource) (p : Option ℕ) (w : Option ℕ) → PlaceFits p → WidthFits FloatShort o w → Fits o (status_at pops m p w)
   unfolding Fits form_fits source_fits PlaceFits widths_fit memory_fits
-  status-fits pops m (At i) w h k = h
-  status-fits pops Allowed Nowhere (Bits w) h k = taken-fits FloatShort Float o w refl k
-  status-fits pops Allowed Nowhere Unmodelled h k = tt
-  status-fits pops Forbidden Nowhere w h k = tt
+  status-fits pops m (Some i) w h k = h
+  status-fits pops Allowed None (Some w) h k = taken-fits FloatShort Float o w refl k
+  status-fits pops Allowed None None h k = tt
+  status-fits pops Forbidden None w h k = tt
 
-  flag-fits : (pop : Bool) (p : Place) → PlaceFits p → Fits o (flag_at pop p)
+  flag-fits : (pop : Bool) (p : Option ℕ) → PlaceFits p → Fits o (flag_at pop p)
   unfolding Fits form_fits PlaceFits
-  flag-fits pop (At i) h = h
-  flag-fits pop Nowhere h = tt
+  flag-fits pop (Some i) h = h
+  flag-fits pop None h = tt
 
-  conditional-fits : (k : X87Condition) (p q : Place) → PlaceFits q → Fits o (conditional_at k p q)
+  conditional-fits : (k : X87Condition) (p q : Option ℕ) → PlaceFits q → Fits o (conditional_at k p q)
   unfolding Fits form_fits PlaceFits
-  conditional-fits k (At d) (At i) h = way (eqb d 0)
+  conditional-fits k (Some d) (Some i) h = way (eqb d 0)
     where
-      way : (t : Bool) → Fits o (cond t (Modelled (ConditionalMove i k)) Declined)
+      way : (t : Bool) → Fits o (cond t (Some (ConditionalMove i k)) None)
       way true = h
       way false = tt
-  conditional-fits k (At d) Nowhere h = tt
-  conditional-fits k Nowhere q h = tt
+  conditional-fits k (Some d) None h = tt
+  conditional-fits k None q h = tt
 
   store-status-fits : Fits o (store_status_at o)
   unfolding Fits form_fits store_status_at WidthFits
   store-status-fits = way (eqb o.kind 0) (ax_of (bytes_of o.text)) (width_of StatusWidth o) refl (width_fits StatusWidth o)
     where
-      way : (t u : Bool) (w : Width) → eqb o.kind 0 ≡ t → WidthFits StatusWidth o w → Fits o (cond t (cond u (Modelled StoreStatus) Declined) (status_to w))
+      way : (t u : Bool) (w : Option ℕ) → eqb o.kind 0 ≡ t → WidthFits StatusWidth o w → Fits o (cond t (cond u (Some StoreStatus) None) (status_to w))
       way true true w e h = or_l (eqb o.kind 0) (is_memory o 16) e
       way true false w e h = tt
-      way false u (Bits w) e h = or_r (eqb o.kind 0) (is_memory o 16) (subst (λ (x : ℕ). is_memory o x ≡ true) (eqb-true w 16 h.0) h.1)
-      way false u Unmodelled e h = tt
+      way false u (Some w) e h = or_r (eqb o.kind 0) (is_memory o 16) (subst (λ (x : ℕ). is_memory o x ≡ true) (eqb-true w 16 h.0) h.1)
+      way false u None e h = tt
 
-  integer-arith-fits : (op : X87Arith) (reversed : Bool) (w : Width) → WidthFits IntArith o w → Fits o (integer_arith_of op reversed w)
+  integer-arith-fits : (op : X87Arith) (reversed : Bool) (w : Option ℕ) → WidthFits IntArith o w → Fits o (integer_arith_of op reversed w)
   unfolding Fits form_fits source_fits widths_fit memory_fits
-  integer-arith-fits op reversed (Bits w) k = taken-fits IntArith Integer o w refl k
-  integer-arith-fits op reversed Unmodelled k = tt
+  integer-arith-fits op reversed (Some w) k = taken-fits IntArith Integer o w refl k
+  integer-arith-fits op reversed None k = tt
 
-  integer-compare-fits : (pops : ℕ) (w : Width) → WidthFits IntArith o w → Fits o (integer_compare_of pops w)
+  integer-compare-fits : (pops : ℕ) (w : Option ℕ) → WidthFits IntArith o w → Fits o (integer_compare_of pops w)
   unfolding Fits form_fits source_fits widths_fit memory_fits
-  integer-compare-fits pops (Bits w) k = taken-fits IntArith Integer o w refl k
-  integer-compare-fits pops Unmodelled k = tt
+  integer-compare-fits pops (Some w) k = taken-fits IntArith Integer o w refl k
+  integer-compare-fits pops None k = tt
 
-  arith-one-fits : (op : X87Arith) (reversed pop : Bool) (p : Place) (w : Width) → PlaceFits p → WidthFits FloatShort o w → Fits o (arith_one op reversed pop p w)
+  arith-one-fits : (op : X87Arith) (reversed pop : Bool) (p : Option ℕ) (w : Option ℕ) → PlaceFits p → WidthFits FloatShort o w → Fits o (arith_one op reversed pop p w)
   unfolding Fits form_fits source_fits PlaceFits widths_fit memory_fits
-  arith-one-fits op reversed true (At i) w h k = and_i (leb i 7) true h refl
-  arith-one-fits op reversed false (At i) w h k = h
-  arith-one-fits op reversed true Nowhere w h k = tt
-  arith-one-fits op reversed false Nowhere (Bits w) h k = taken-fits FloatShort Float o w refl k
-  arith-one-fits op reversed false Nowhere Unmodelled h k = tt
+  arith-one-fits op reversed true (Some i) w h k = and_i (leb i 7) true h refl
+  arith-one-fits op reversed false (Some i) w h k = h
+  arith-one-fits op reversed true None w h k = tt
+  arith-one-fits op reversed false None (Some w) h k = taken-fits FloatShort Float o w refl k
+  arith-one-fits op reversed false None None h k = tt
 
-  arith-two-fits : (op : X87Arith) (reversed pop : Bool) (p q : Place) → PlaceFits p → PlaceFits q → Fits o (arith_two op reversed pop p q)
+  arith-two-fits : (op : X87Arith) (reversed pop : Bool) (p q : Option ℕ) → PlaceFits p → PlaceFits q → Fits o (arith_two op reversed pop p q)
   unfolding Fits form_fits source_fits PlaceFits
-  arith-two-fits op reversed pop (At d) (At i) h k = and_i (leb d 7) (leb i 7) h k
-  arith-two-fits op reversed pop (At d) Nowhere h k = tt
-  arith-two-fits op reversed pop Nowhere q h k = tt
+  arith-two-fits op reversed pop (Some d) (Some i) h k = and_i (leb d 7) (leb i 7) h k
+  arith-two-fits op reversed pop (Some d) None h k = tt
+  arith-two-fits op reversed pop None q h k = tt
 
 -- The first operand is the only one, where there is one
 Aims : Operand → Operands → Type 0
@@ -247,7 +244,7 @@ Aims o (one a) = a ≡ o
 Aims o (two a b) = Unit {0}
 Aims o more = Unit {0}
 
-by_count : (F : Operands → Classified) (o : Operand) → Fits o (F none) → Fits o (F (one o)) → ((a b : Operand) → Fits o (F (two a b))) → Fits o (F more) → (s : Operands) → Aims o s → Fits o (F s)
+by_count : (F : Operands → Option Form) (o : Operand) → Fits o (F none) → Fits o (F (one o)) → ((a b : Operand) → Fits o (F (two a b))) → Fits o (F more) → (s : Operands) → Aims o s → Fits o (F s)
 unfolding Aims
 by_count F o w x y z none h = w
 by_count F o w x y z (one a) h = subst (λ (b : Operand). Fits o (F (one b))) (sym h) x
@@ -297,7 +294,11 @@ form-fits o (family.Arith op reversed pop) e =
     alone : (pop : Bool) → Fits o (form_of (family.Arith op reversed pop) none)
     alone true = refl
     alone false = tt
-form-fits o family.Unknown e = by_count (form_of family.Unknown) o tt tt (λ a b. tt) tt
+
+made-fits : (o : Operand) (f : Option Family) → found_fits f ≡ true → (s : Operands) → Aims o s → Fits o (made_of f s)
+unfolding Fits found_fits
+made-fits o None e s h = tt
+made-fits o (Some f) e s h = form-fits o f e s h
 
 -- The records below the count, of which the first is the one that a lift reads and writes
 aims : (count : ℕ) (s : List Operand) → Aims (get_or s 0 no_operand) (operands_of count s)
@@ -311,19 +312,22 @@ aims count s = way (eqb count 0) (eqb count 1) (eqb count 2)
     way false false false = tt
 
 -- EVERY FORM THAT CLASSIFY GIVES FITS
-classified : (i : Instruction) → Fits (first_of i) (classify_of i)
+pub classify-fits : (i : Instruction) (f : Form) → classify_of i ≡ Ok (Some f) → form_fits (first_of i) f ≡ true
 unfolding Fits classify_of family_of
-classified i =
-    way (leb i.count 3 && all ranged_is (take i.count i.operands)) (valid_of i.mnemonic && all spelled_is (take i.count i.operands))
+classify-fits i f = way (leb i.count 3 && all ranged_is (take i.count i.operands)) (valid_of i.mnemonic && all spelled_is (take i.count i.operands))
   where
-    way : (x y : Bool)
-        → Fits (first_of i) (cond x (cond y (form_of (family_of (bytes_of i.mnemonic)) (operands_of i.count i.operands)) BadText) BadOperands)
-    way true true =
-        form-fits (first_of i) (family_of (bytes_of i.mnemonic)) (find-fits (trim_of (bytes_of i.mnemonic)) names names-fit)
-        (operands_of i.count i.operands) (aims i.count i.operands)
-    way true false = tt
-    way false y = tt
+    made : Option Form
+    made = made_of (family_of (bytes_of i.mnemonic)) (operands_of i.count i.operands)
 
-pub classify-fits : (i : Instruction) (f : Form) → classify_of i ≡ Modelled f → form_fits (first_of i) f ≡ true
-unfolding Fits
-classify-fits i f e = subst (Fits (first_of i)) e (classified i)
+    never : ◌≡◌ {A = ℕ} 0 1 → ⊥
+    never z = omega arith
+
+    fits : Fits (first_of i) made
+    fits = made-fits (first_of i) (family_of (bytes_of i.mnemonic)) (find-fits (trim_of (bytes_of i.mnemonic)) names names-fit) (operands_of i.count i.operands) (aims i.count i.operands)
+
+    way : (x y : Bool) → ◌≡◌ {A = Classified} (cond x (cond y (Ok made) (Err bad.Text)) (Err bad.Operands)) (Ok (Some f)) → form_fits (first_of i) f ≡ true
+    way true true e =
+        let m : made ≡ Some f = cc in
+        subst (Fits (first_of i)) m fits
+    way true false e = let z : ◌≡◌ {A = ℕ} 0 1 = cc in absurd (never z)
+    way false y e = let z : ◌≡◌ {A = ℕ} 0 1 = cc in absurd (never z)

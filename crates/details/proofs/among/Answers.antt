@@ -1,23 +1,26 @@
-use Rattle.std.proofs.Common.{eq-eqb, ne_eqb}
-use Rattle.details.specs.Inside.{why_by}
+use Rattle.std.proofs.Common.{◌≡◌, ◌∙◌, sym, arith, length}
+use Rattle.details.proofs.Shapes.{by-none, by-one, by-two, by-more}
 use Rattle.details.proofs.among.Goals as goal
 
-pub returns-then-count-eq0 : goal.returns-then-count-eq0
-unfolding why_by
-returns-then-count-eq0 c = rw (c.if-shape.true, eq-eqb _ _ c.if-count-eq0.true) c.counted.ensures
+pub returns-in-empty : goal.returns-in-empty
+returns-in-empty c =
+    let n : length c.args.operands.now ≡ 0 = omega arith in
+    rw (by-none c.args.shape c.args.operands.now n, c.if-shape.true)
 
-pub returns-then-count-eq1 : goal.returns-then-count-eq1
-unfolding why_by
-returns-then-count-eq1 c = rw (c.if-shape.true, ne_eqb _ _ c.if-count-eq0.false, eq-eqb _ _ c.if-count-eq1.true) c.only.ensures
+pub returns-in-len1 : goal.returns-in-len1
+returns-in-len1 c =
+    let n : length c.args.operands.now ≡ 1 = omega arith in
+    c.only.ensures ∙ sym (by-one c.args.shape c.args.operands.now _ n)
 
-pub returns-then-count-eq2 : goal.returns-then-count-eq2
-unfolding why_by
-returns-then-count-eq2 c = rw (c.if-shape.true, ne_eqb _ _ c.if-count-eq0.false, ne_eqb _ _ c.if-count-eq1.false, eq-eqb _ _ c.if-count-eq2.true) c.pair.ensures
+pub returns-in-len2 : goal.returns-in-len2
+returns-in-len2 c =
+    let n : length c.args.operands.now ≡ 2 = omega arith in
+    c.pair.ensures ∙ sym (by-two c.args.shape c.args.operands.now _ _ n)
 
-pub returns-then-shape : goal.returns-then-shape
-unfolding why_by
-returns-then-shape c = rw (c.if-shape.true, ne_eqb _ _ c.if-count-eq0.false, ne_eqb _ _ c.if-count-eq1.false, ne_eqb _ _ c.if-count-eq2.false)
+pub returns-in_default : goal.returns-in_default
+returns-in_default c =
+    let n : length c.args.operands.now ≡ 0 = omega arith in
+    rw (by-none c.args.shape c.args.operands.now n, c.if-shape.false)
 
-pub returns : goal.returns
-unfolding why_by
-returns c = rw c.if-shape.false
+pub returns-in_default-2 : goal.returns-in_default-2
+returns-in_default-2 c = rw (by-more c.args.shape c.args.operands.now c.in_default.len_at_least)

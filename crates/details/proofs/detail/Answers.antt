@@ -1,18 +1,18 @@
-use Rattle.details.specs.Why.{detail_for}
+use Rattle.details.specs.Why.{reason_for}
 use Rattle.details.proofs.detail.Goals as goal
 
-pub returns-in-Modelled : goal.returns-in-Modelled
-unfolding detail_for
-returns-in-Modelled c = simp c.in-Modelled.is
+pub returns-in-Ok-None : goal.returns-in-Ok-None
+unfolding reason_for
+returns-in-Ok-None c =
+    let e = rw c.in-Ok-None.is at c.in-Ok-None.field-0-is in
+    simp (c.in-Ok-None.is, e) c.why.ensures
 
-pub returns-in-Declined : goal.returns-in-Declined
-unfolding detail_for
-returns-in-Declined c = simp c.in-Declined.is c.why.ensures
+pub returns-in-Ok-Some : goal.returns-in-Ok-Some
+unfolding reason_for
+returns-in-Ok-Some c =
+    let e = rw c.in-Ok-Some.is at c.in-Ok-Some.field-0-is in
+    simp (c.in-Ok-Some.is, e)
 
-pub returns-in-BadText : goal.returns-in-BadText
-unfolding detail_for
-returns-in-BadText c = simp c.in-BadText.is
-
-pub returns-in-BadOperands : goal.returns-in-BadOperands
-unfolding detail_for
-returns-in-BadOperands c = simp c.in-BadOperands.is
+pub returns-in-Err : goal.returns-in-Err
+unfolding reason_for
+returns-in-Err c = simp c.in-Err.is

@@ -3,18 +3,24 @@ use Rattle.details.specs.Inside.{why_pair}
 use Rattle.details.specs.Takes.{places, st0-alone}
 use Rattle.details.proofs.pair.Goals as goal
 
-pub returns-in-Nothing : goal.returns-in-Nothing
+pub returns-in-None : goal.returns-in-None
 unfolding why_pair
-returns-in-Nothing c = simp c.in-Nothing.is
+returns-in-None c = simp c.in-None.is
 
-pub returns-in-Second : goal.returns-in-Second
+pub returns-in-Some-Second : goal.returns-in-Some-Second
 unfolding why_pair
-returns-in-Second c = simp c.in-Second.is c.place.ensures
+returns-in-Some-Second c =
+    let e = rw c.in-Some-Second.is at c.in-Some-Second.field-0-is in
+    simp (c.in-Some-Second.is, e) c.place.ensures
 
-pub returns-in-TopAnd : goal.returns-in-TopAnd
+pub returns-in-Some-TopAnd : goal.returns-in-Some-TopAnd
 unfolding why_pair
-returns-in-TopAnd c = rw (c.in-TopAnd.is, two-why st0-alone places _ _, ← c.top.ensures, ← c.place-in-TopAnd.ensures) c.both.ensures
+returns-in-Some-TopAnd c =
+    let e = rw c.in-Some-TopAnd.is at c.in-Some-TopAnd.field-0-is in
+    rw (c.in-Some-TopAnd.is, e, two-why st0-alone places _ _, ← c.top.ensures, ← c.place-in-Some-TopAnd.ensures) c.or.ensures
 
-pub returns-in-Places : goal.returns-in-Places
+pub returns-in-Some-Places : goal.returns-in-Some-Places
 unfolding why_pair
-returns-in-Places c = rw (c.in-Places.is, two-why places places _ _, ← c.place-in-Places.ensures, ← c.place-in-Places-2.ensures) c.both-in-Places.ensures
+returns-in-Some-Places c =
+    let e = rw c.in-Some-Places.is at c.in-Some-Places.field-0-is in
+    rw (c.in-Some-Places.is, e, two-why places places _ _, ← c.place-in-Some-Places.ensures, ← c.place-in-Some-Places-2.ensures) c.or-in-Some-Places.ensures

@@ -1,8 +1,8 @@
 use Rattle.details.proofs.Operands.{place-why}
 use Rattle.details.proofs.place.Goals as goal
 
-pub returns-in_default : goal.returns-in_default
-returns-in_default c = rw (place-why _, ← c.slot_index.ensures, c.in_default.is)
+pub returns-in-Some : goal.returns-in-Some
+returns-in-Some c = rw (place-why _, ← c.slot_index.ensures, c.in-Some.is)
 
-pub returns : goal.returns
-returns c = rw (place-why _, ← c.slot_index.ensures, c.in-At.is)
+pub returns-in-None : goal.returns-in-None
+returns-in-None c = rw (place-why _, ← c.slot_index.ensures, c.in-None.is)

@@ -2,7 +2,7 @@
 use Rattle.std.specs.Prelude.{Bool, true, false, cond, ◌||◌, ℕ, ◌/◌, ◌%◌, eqb}
 use Rattle.forms.specs.Names.{x87_one, x87_zero}
 use Rattle.forms.specs.declared.Family.{Family}
-use Rattle.forms.specs.declared.Family.TheVariants.{Plain, Exchange, Load, Store, StatusCompare, PairedCompare, FlagCompare, StoreStatus, ConditionalMove, IntegerArith, IntegerCompare, Arith, Unknown}
+use Rattle.forms.specs.declared.Family.TheVariants.{Plain, Exchange, Load, Store, StatusCompare, PairedCompare, FlagCompare, StoreStatus, ConditionalMove, IntegerArith, IntegerCompare, Arith}
 use Rattle.forms.specs.declared.Form.{Form}
 use Rattle.forms.specs.declared.Form.TheVariants.{Unary}
 use Rattle.forms.specs.declared.UnaryOp.TheVariants.{Abs, Chs, Sqrt, RoundToIntegral}
@@ -65,7 +65,7 @@ arith_from n = cond (eqb n 0) Add (cond (eqb n 1) Mul (cond (eqb n 2) Sub (cond 
 abbrev pub reversed_from : ℕ → Bool
 reversed_from n = eqb n 3 || eqb n 5
 
--- the family with this number, and which of it; past the last one, none
+-- the family with this number, and which of it
 abbrev pub family_at : ℕ → ℕ → Family
 family_at f n =
     cond (eqb f 0) (Plain (plain_from n))
@@ -80,8 +80,7 @@ family_at f n =
     (cond (eqb f 9) (IntegerArith (arith_from n) (reversed_from n))
     (cond (eqb f 10) (IntegerCompare n)
     (cond (eqb f 11) (Arith (arith_from n) (reversed_from n) false)
-    (cond (eqb f 12) (Arith (arith_from n) (reversed_from n) true)
-    Unknown))))))))))))
+    (Arith (arith_from n) (reversed_from n) true))))))))))))
 
 unfoldable pub family_from : ℕ → Family
 family_from code = family_at (code / 16) (code % 16)

@@ -1,11 +1,11 @@
 -- How the code finds a name: by one number for a text, its first byte the lowest.
-use Rattle.std.specs.Prelude.{Bool, cond, ◌&&◌, List, [], ◌∷◌, map, ℕ, leb, ltb, eqb, length}
+use Rattle.std.specs.Prelude.{Bool, cond, ◌&&◌, List, [], ◌∷◌, map, ℕ, leb, ltb, eqb, length, Option, Some, None, option_map}
+use Rattle.std.specs.List.{find, zip}
 use Rattle.words.specs.Bytes.{little_endian}
 use Rattle.texts.specs.Bytes.{all}
 use Rattle.texts.specs.Letters.{lower_of}
 use Rattle.forms.specs.Names.{Name}
 use Rattle.forms.specs.declared.Family.{Family}
-use Rattle.forms.specs.declared.Family.TheVariants.{Unknown}
 
 -- in lower case a byte, and not the zero byte
 abbrev pub lower_is : ℕ → Bool
@@ -25,12 +25,10 @@ abbrev pub name_entry : Name → Entry
 name_entry n = record { key = little_endian n.text; family = n.family }
 
 -- what stands beside the first key that is this one
-abbrev pub family_in : ℕ → List Entry → Family
-family_in x [] = Unknown
-family_in x (e ∷ es) = cond (eqb e.key x) e.family (family_in x es)
+abbrev pub family_in : ℕ → List Entry → Option Family
+family_in x [] = None
+family_in x (e ∷ es) = cond (eqb e.key x) (Some e.family) (family_in x es)
 
--- the same in two columns, keys and codes; 255 is the code of no name
-unfoldable pub code_in : ℕ → List ℕ → List ℕ → ℕ
-code_in x [] codes = 255
-code_in x (k ∷ keys) [] = 255
-code_in x (k ∷ keys) (c ∷ codes) = cond (eqb k x) c (code_in x keys codes)
+-- the same in two columns, keys and codes
+unfoldable pub code_in : ℕ → List ℕ → List ℕ → Option ℕ
+code_in x keys codes = option_map (λ p. p.1) (find (λ p. eqb p.0 x) (zip keys codes))

@@ -1,28 +1,25 @@
-use Rattle.std.proofs.Common.{sym, ◌∙◌}
-use Rattle.texts.proofs.Readings.{placed, named-short, named-0, named-1, named-2, named-on}
+use Rattle.std.proofs.Common.{eq-eqb, ne_eqb}
+use Rattle.texts.proofs.Laws.{named-short, named-long, cond_same}
+use Rattle.texts.specs.Places.{place_of}
 use Rattle.texts.proofs.slot_index.Goals as goal
+use Rattle.texts.proofs.slot_index.Goals.{else-lower-eq115-via-then-lower-eq115+then-lower-eq116+else-open-eq40, else-lower-eq115-via-then-lower-eq115+else-lower-eq116, else-lower-eq115-via-else-lower-eq115}
 
-pub returns-then-t-lt3 : goal.returns-then-t-lt3
-returns-then-t-lt3 c = placed _ _ _ c.trim-t.ensures (named-short c.trim-t.result.now c.if-t-lt3.true)
+pub returns-in_default : goal.returns-in_default
+unfolding place_of
+returns-in_default c = rw (← c.trim.ensures, named-short c.trim.result.now c.in_default.len_below)
 
-pub returns-then-lower-eq40 : goal.returns-then-lower-eq40
-returns-then-lower-eq40 c =
-    let t = c.trim-t in
-    placed _ _ _ t.ensures
-    (named-on t.result.now c.if-t-lt3.false _ _ _ c.lower.ensures c.lower-then-lower-eq115.ensures c.lower-then-lower-eq116.ensures
-    c.if-lower-eq115.true c.if-lower-eq116.true c.if-lower-eq40.true ∙ sym c.signed_of.ensures)
+pub returns-then-open-eq40 : goal.returns-then-open-eq40
+unfolding place_of
+returns-then-open-eq40 c =
+    rw (← c.trim.ensures, named-long c.trim.result.now c.in-len3-up.len_at_least, ← c.lower.ensures, ← c.lower-then-lower-eq115.ensures, eq-eqb _ _ c.if-lower-eq115.true, eq-eqb _ _ c.if-lower-eq116.true, eq-eqb _ _ c.if-open-eq40.true)
+    c.signed_of.ensures
 
-pub returns-else-lower-eq40 : goal.returns-else-lower-eq40
-returns-else-lower-eq40 c =
-    let t = c.trim-t in
-    placed _ _ _ t.ensures (named-2 t.result.now c.if-t-lt3.false 0 0 _ c.lower-then-lower-eq116.ensures c.if-lower-eq40.false)
-
-pub returns-else-lower-eq116 : goal.returns-else-lower-eq116
-returns-else-lower-eq116 c =
-    let t = c.trim-t in
-    placed _ _ _ t.ensures (named-1 t.result.now c.if-t-lt3.false 0 _ 0 c.lower-then-lower-eq115.ensures c.if-lower-eq116.false)
-
-pub returns-else-lower-eq115 : goal.returns-else-lower-eq115
-returns-else-lower-eq115 c =
-    let t = c.trim-t in
-    placed _ _ _ t.ensures (named-0 t.result.now c.if-t-lt3.false _ 0 0 c.lower.ensures c.if-lower-eq115.false)
+pub returns : goal.returns
+unfolding place_of
+returns c =
+    rw (← c.trim.ensures, named-long c.trim.result.now c.in-len3-up.len_at_least, ← c.lower.ensures)
+    (elim c.else-lower-eq115.branch [
+      | else-lower-eq115-via-then-lower-eq115+then-lower-eq116+else-open-eq40 w ↦ rw (ne_eqb _ _ w.if-open-eq40.false) (simp cond_same)
+      | else-lower-eq115-via-then-lower-eq115+else-lower-eq116 w ↦ rw (← w.lower-then-lower-eq115.ensures, ne_eqb _ _ w.if-lower-eq116.false) (simp cond_same)
+      | else-lower-eq115-via-else-lower-eq115 w ↦ rw (ne_eqb _ _ w.if-lower-eq115.false)
+    ])

@@ -148,8 +148,8 @@ fn calls() -> Vec<Call> {
     out
 }
 
-/// What the theorem must state of a call. `trim` gives a reference back, of
-/// which its bytes are determined; a function on
+/// What the theorem must state of a call. `trim` and `as_bytes` give a
+/// reference back, of which its bytes are determined; a function on
 /// what takes text has its contract as a formula.
 fn expected(call: &Call) -> String {
     let Call {
@@ -158,7 +158,9 @@ fn expected(call: &Call) -> String {
     let name = call.name.replace('_', "-");
     let key = format!("pub {krate}·{name}");
     match (krate.as_str(), name.as_str()) {
-        ("texts", "trim") => format!("{key} : Fixes {contract}.Reads.Post (λ κ r x. r.now)"),
+        ("texts", "trim" | "as-bytes") => {
+            format!("{key} : Fixes {contract}.Reads.Post (λ κ r x. r.now)")
+        }
         ("writing", "fitted") => format!(
             "{key} : (T : _) (laws : _) (text : _) (dict : _) → Determined₁ ({contract}.Reads.Post T laws text dict) (λ κ x. x.1.0.now)"
         ),

@@ -1,6 +1,6 @@
 use Rattle.std.proofs.Common.{rules, refl, sym, ◌∙◌, arith, lt-ltb, le-ltb}
 use Rattle.export.specs.Lifts.{small_is}
-use Rattle.texts.proofs.Every.{all-on, all-off}
+use Rattle.export.proofs.Every.{all-on, all-off}
 use Rattle.export.proofs.state.small.Goals as goal
 
 pub loop-i-preserved : goal.loop-i-preserved

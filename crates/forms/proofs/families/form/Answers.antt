@@ -48,7 +48,3 @@ returns-in-IntegerCompare c = simp c.in-IntegerCompare.is c.classify_integer_com
 pub returns-in-Arith : goal.returns-in-Arith
 unfolding form_of
 returns-in-Arith c = simp c.in-Arith.is c.classify_arith.ensures
-
-pub returns-in-Unknown : goal.returns-in-Unknown
-unfolding form_of
-returns-in-Unknown c = simp c.in-Unknown.is

@@ -1,11 +1,12 @@
-use Rattle.std.proofs.Common.{ne_eqb}
+use Rattle.std.proofs.Common.{◌∙◌, ap, eq-eqb, ne_eqb}
 use Rattle.forms.specs.Operands.{slot_of}
+use Rattle.texts.specs.Places.{place_of}
 use Rattle.forms.proofs.families.slot_index.Goals as goal
 
-pub returns-then-o-eq0 : goal.returns-then-o-eq0
+pub returns-then-o-ne0 : goal.returns-then-o-ne0
 unfolding slot_of
-returns-then-o-eq0 c = simp c.if-o-eq0.true c.slot_index_text.ensures
+returns-then-o-ne0 c = rw (ne_eqb _ _ c.if-o-ne0.true)
 
 pub returns : goal.returns
 unfolding slot_of
-returns c = simp (ne_eqb _ _ c.if-o-eq0.false)
+returns c = rw (eq-eqb _ _ c.if-o-ne0.false) (c.slot_index.ensures ∙ ap place_of c.as_bytes.ensures)

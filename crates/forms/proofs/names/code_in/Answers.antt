@@ -1,16 +1,24 @@
-use Rattle.std.proofs.Common.{rules, sym, ◌∙◌}
-use Rattle.forms.proofs.Lookup.{code-on, code-stop, code-end}
+use Rattle.std.proofs.Common.{rules, tests, ℕ, eqb, ap, ◌∙◌}
+use Rattle.std.specs.Prelude.{option_map}
+use Rattle.std.proofs.lemmas.Iterator.{YieldsList-from_slice, YieldsList-from_zip}
+use Rattle.std.proofs.lemmas.Iterator.Search.{find_from_yields_List}
+use Rattle.forms.specs.Inside.Keys.{code_in}
 use Rattle.forms.proofs.names.code_in.Goals as goal
 
-pub returns-then-keys-i : goal.returns-then-keys-i
-returns-then-keys-i c =
-    sym (code-stop _ c.args.codes.now _ _ c.requires c.loop-i-test.true c.if-keys-i.true)
-    ∙ c.loop-i.invariant.1
-
-pub loop-i-preserved : goal.loop-i-preserved
-loop-i-preserved c =
-    (search rules, sym (code-on _ c.args.codes.now _ _ c.requires c.loop-i-test.true c.if-keys-i.false) ∙ c.loop-i.invariant.1)
+pub returns-in_err-code : goal.returns-in_err-code
+unfolding code_in
+returns-in_err-code c =
+    let found =
+    find_from_yields_List (λ (p : ℕ × ℕ). eqb p.0 c.args.key) c.find.new.self _ c.find.result c.find.ensures.ran
+    (YieldsList-from_zip (YieldsList-from_slice c.args.keys.now cc) (YieldsList-from_slice c.args.codes.now cc))
+    (λ x b q k. search (rules, tests)) in
+    c.from_residual.ensures ∙ ap (option_map (λ (p : ℕ × ℕ). p.1)) (rw c.in_err-code.was at found)
 
 pub returns : goal.returns
+unfolding code_in
 returns c =
-    sym (code-end _ c.args.codes.now _ c.loop-i.i c.requires c.loop-i-test.false) ∙ c.loop-i.invariant.1
+    let found =
+    find_from_yields_List (λ (p : ℕ × ℕ). eqb p.0 c.args.key) c.find.new.self _ c.find.result c.find.ensures.ran
+    (YieldsList-from_zip (YieldsList-from_slice c.args.keys.now cc) (YieldsList-from_slice c.args.codes.now cc))
+    (λ x b q k. search (rules, tests)) in
+    ap (option_map (λ (p : ℕ × ℕ). p.1)) (rw c.in_ok-code.was at found)
