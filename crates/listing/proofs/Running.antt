@@ -7,19 +7,16 @@ use native.Mathlib.Omega.{arith}
 use borrow.Author.Tests.{le-leb, lt-leb, leb-true, leb-false}
 use lib.Dec.{leb}
 use lib.ListN.{length}
-use Rattle.lists.specs.Steps.{Does}
 use Rattle.lists.specs.Stack.{fresh}
 use Rattle.lists.specs.declared.State.{State}
 use Rattle.records.specs.Format.{taken_at}
-use Rattle.records.specs.Numbers.{refusal_of, place_of, record_is}
+use Rattle.records.specs.Numbers.{place_of, record_is}
 use Rattle.records.specs.declared.Cursor.{Cursor}
-use Rattle.records.specs.declared.Refusal.{Refusal}
 use Rattle.records.specs.declared.Taken.{Taken}
 use Rattle.records.specs.declared.Outcome.{Outcome}
 use Rattle.records.specs.declared.Outcome.TheVariants.{Record, End, Refused}
-use Rattle.lifter.specs.Lift.{lift_of}
 use Rattle.listing.specs.Run.{Ran, Runs, run_from, run_of}
-use Rattle.listing.specs.Inside.Turn.{Turned, goes, going_on, halted_at}
+use Rattle.listing.specs.Inside.Turn.{Turned, goes, going_on}
 use Rattle.listing.specs.Enough.{enough, past_end, record-onward}
 use Rattle.listing.specs.declared.Stop.{Stop}
 use Rattle.listing.specs.declared.Progress.{Progress}
@@ -29,20 +26,6 @@ never t = omega arith
 
 off : {P : Type 0} → false ≡ true → P
 off e = let z : ◌≡◌ {A = ℕ} 0 1 = cc in absurd (never z)
-
-module _ (t : Taken) (at : ℕ) (s : State) (n m : List ℕ) where
-  pub at-end : (c : Cursor) → t.outcome ≡ End c → Turned t at s n m (halted_at s 0 0) n m
-  at-end c o = record { comes = λ on. rw o; read = off }
-
-  pub refused : (r : Refusal) (p : ℕ) → t.outcome ≡ Refused r p → Turned t at s n m (halted_at s (refusal_of r) p) n m
-  refused r p o = record { comes = λ on. rw o; read = off }
-
-  module _ (c : Cursor) (o : t.outcome ≡ Record c) (s' : State) (a : ℕ) (n' m' : List ℕ) (d : Does (lift_of s t.insn n m) s' a n n' m m') where
-    pub lifts-on : a ≤ 2 → Turned t at s n m (going_on s') n' m'
-    lifts-on l = record { comes = λ on. rw (o, ← d.number, ← d.state, ← d.list, ← d.said, le-leb a 2 l); read = λ _. rw o }
-
-    pub lift-refused : 2 < a → Turned t at s n m (halted_at s' a at) n' m'
-    lift-refused l = record { comes = λ on. rw (o, ← d.number, ← d.state, ← d.list, ← d.said, lt-leb a 2 l); read = off }
 
 -- what a run comes to from a place on
 abbrev pub whole : List ℕ → ℕ → Progress → List ℕ → List ℕ → Ran

@@ -8,7 +8,7 @@ ghost use Rattle.listing.specs.Run.{Runs, run_from, run_of, stopped_at};
 ghost use Rattle.listing.specs.Inside.Turn.{Turned, goes, going_on, halted_at};
 ghost use Rattle.listing.specs.Listing.{Lists, text_of};
 
-use lists::State;
+use lists::{LiftCtx, State};
 use records::{Outcome, Taken};
 
 // Where a run stopped: its state, and a refusal's number and place, 0 and 0 where there is none.
@@ -89,12 +89,15 @@ fn turn<'a>(
         Outcome::End(_) => halted(s, 0, 0),
         Outcome::Refused(r, p) => halted(s, records::refusal_number(r), p),
         Outcome::Record(_) => {
-            let done = lifter::lift(nodes, statements, s, insn);
-            let after = done.state;
-            if 2 < done.answer {
-                return halted(after, done.answer, at);
+            let mut ctx = LiftCtx {
+                nodes,
+                statements,
+                state: s,
+            };
+            match lifter::lift(&mut ctx, insn) {
+                Ok(_) => going(ctx.state),
+                Err(refusal) => halted(ctx.state, refusal as u32, at),
             }
-            going(after)
         }
     }
 }
@@ -117,7 +120,7 @@ fn turns(input: &[u8], nodes: &mut [u64], statements: &mut [u64], start: Progres
 pub fn run(input: &[u8], nodes: &mut [u64], statements: &mut [u64]) -> Stop
     ensures { Runs (run_of input.now nodes.old statements.old) result nodes.new statements.new }
 {
-    let s = lists::new();
+    let s = State::new();
     if 16384 < input.len() {
         return stopped(s, 13, 0);
     }

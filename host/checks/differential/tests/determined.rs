@@ -6,13 +6,13 @@
 use std::fs;
 use std::path::{Path, PathBuf};
 
-/// A public call: its crate, its name, where its contract stands, and the
-/// places of its parameters that are lent for writing.
+/// A public call: its crate, its name, behind its type's where it is a method,
+/// where its contract stands, and what of its parameters at exit is determined.
 struct Call {
     krate: String,
     name: String,
     contract: String,
-    lent: Vec<usize>,
+    lent: Vec<String>,
 }
 
 fn root() -> PathBuf {
@@ -46,26 +46,75 @@ fn parameters(text: &str) -> Vec<&str> {
     out
 }
 
+/// What of a parameter that is lent for writing is determined at exit: a
+/// slice's words, a state, or the lists and the state that a lift works on.
+/// `owner` is the type whose method the call is.
+fn determined(place: usize, parameter: &str, owner: Option<&str>) -> Option<String> {
+    let held = match parameter {
+        "&mut self" => owner?,
+        _ => parameter.split_once("&mut ").map_or(
+            if parameter.contains(" mut [") { "[" } else { "" },
+            |(_, held)| held,
+        ),
+    };
+    let at = format!("x{}.0.now", ".1".repeat(place));
+    if held.starts_with("LiftCtx") {
+        Some(format!("at_hand {at}"))
+    } else if held.starts_with('[') || held == "State" {
+        Some(at)
+    } else {
+        None
+    }
+}
+
+/// The public calls of one source text that begin with `start`, methods of
+/// `owner` where there is one, whose contracts stand below `path`.
+fn public_at(krate: &str, path: &str, text: &str, start: &str, owner: Option<&str>) -> Vec<Call> {
+    let mut out = Vec::new();
+    for (place, _) in text.match_indices(start) {
+        let rest = &text[place + start.len()..];
+        let name = rest.split(['(', '<']).next().expect("a name");
+        let open = rest.find('(').expect("parameters") + 1;
+        let lent = parameters(&rest[open..])
+            .iter()
+            .enumerate()
+            .filter_map(|(k, p)| determined(k, p, owner))
+            .collect();
+        out.push(Call {
+            krate: krate.to_owned(),
+            name: owner.map_or(name.to_owned(), |owner| format!("{owner}·{name}")),
+            contract: owner.map_or(format!("{path}.{name}"), |owner| {
+                format!("{path}.{owner}.{name}")
+            }),
+            lent,
+        });
+    }
+    out
+}
+
 /// The public calls of one source text, whose contracts stand below `path`.
 fn public(krate: &str, path: &str, text: &str) -> Vec<Call> {
     let mut out = Vec::new();
     for start in ["\npub fn ", "\npub extern \"C\" fn "] {
-        for (place, _) in text.match_indices(start) {
-            let rest = &text[place + start.len()..];
-            let name = rest.split(['(', '<']).next().expect("a name");
-            let open = rest.find('(').expect("parameters") + 1;
-            let lent = parameters(&rest[open..])
-                .iter()
-                .enumerate()
-                .filter(|(_, p)| p.contains(": &mut [") || p.contains(" mut ["))
-                .map(|(k, _)| k)
-                .collect();
-            out.push(Call {
-                krate: krate.to_owned(),
-                name: name.to_owned(),
-                contract: format!("{path}.{name}"),
-                lent,
-            });
+        out.extend(public_at(krate, path, text, start, None));
+    }
+    for block in text.split("\nimpl").skip(1) {
+        let (head, body) = block.split_once("{\n").expect("a block");
+        let body = body.split("\n}\n").next().expect("its end");
+        let owner = head
+            .trim_start_matches("<'a>")
+            .trim()
+            .split('<')
+            .next()
+            .expect("a type");
+        if !head.contains(" for ") {
+            out.extend(public_at(
+                krate,
+                path,
+                &format!("\n{body}"),
+                "\n    pub fn ",
+                Some(owner),
+            ));
         }
     }
     out
@@ -125,7 +174,7 @@ fn expected(call: &Call) -> String {
             let slices: String = call
                 .lent
                 .iter()
-                .map(|k| format!(" (λ κ x. x{}.0.now)", ".1".repeat(*k)))
+                .map(|what| format!(" (λ κ x. {what})"))
                 .collect();
             format!("{key} : Determined{which} {contract}.Reads.Post{slices}")
         }
@@ -184,9 +233,20 @@ fn another_statement_is_reported() {
         said("proofs.bv_xor.Reads", "proofs.bv_and.Reads"),
         ["exprs::bv_xor"]
     );
-    let lift = "lifter.proofs.lift.Reads.Post (λ κ x. x.0.now)";
-    let lent = " (λ κ x. x.1.0.now)";
-    assert_eq!(said(&format!("{lift}{lent}"), lift), ["lifter::lift"]);
+    let run = "listing.proofs.run.Reads.Post (λ κ x. x.1.0.now)";
+    let lent = " (λ κ x. x.1.1.0.now)";
+    assert_eq!(said(&format!("{run}{lent}"), run), ["listing::run"]);
+    assert_eq!(
+        said(
+            "lists.proofs.LiftCtx.read.Reads.Post (λ κ x. at_hand x.0.now)",
+            "lists.proofs.LiftCtx.read.Reads.Post (λ κ x. x.0.now)"
+        ),
+        ["lists::LiftCtx·read"]
+    );
+    assert_eq!(
+        said("pub lists·State·push :", "pub lists·State·pull :"),
+        ["lists::State·push"]
+    );
     assert_eq!(
         said(
             "reader.specs.contracts.take.clauses",
