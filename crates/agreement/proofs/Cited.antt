@@ -2,7 +2,7 @@
 use Rattle.std.specs.Prelude.{◌≡◌, List, ℕ}
 use Rattle.std.proofs.Common.{sym}
 use Rattle.listing.specs.Run.{run_of}
-use Rattle.agreement.specs.Runs.{called, call-is}
+use Rattle.agreement.specs.Runs.{at_hand, called, call-is}
 use Rattle.agreement.specs.Calls.{Words, lift, lift_record, promised, made}
 use Rattle.agreement.specs.Program.{held}
 
@@ -13,9 +13,8 @@ same-words : {s s' n n' t t' : List ℕ} → s ≡ s' → n ≡ n' → t ≡ t' 
 same-words p q r = λ i. words (p i) (q i) (r i)
 
 -- `lifter::lift`: one call of a run
-pub lift-is : (κ : _) (a : _) (r : _) (e : _) → Rattle.lifter.proofs.lift.Reads.Post κ a r e
-    → called (record { st = a.1.1.0; nodes = a.0.now; statements = a.1.0.now }) a.1.1.1.0 ≡ record { st = r.state; nodes = e.0.now; statements = e.1.0.now }
-lift-is κ a r e p = call-is _ _ _ _ _ _ _ _ p.does
+pub lift-is : (κ : _) (a : _) (r : _) (e : _) → Rattle.lifter.proofs.lift.Reads.Post κ a r e → called (at_hand a.0.now) a.1.0 ≡ at_hand e.0.now
+lift-is κ a r e p = call-is _ _ _ _ p.does
 
 -- `x87_lift` and `x87_lift_record`: one call of Rust's
 pub x87-lift-is : (κ : _) (a : _) (r : _) (e : _) → Rattle.export.proofs.x87_lift.Reads.Post κ a r e

@@ -21,7 +21,7 @@ use Rattle.export.specs.Steps.{stepped_of}
 use Rattle.export.specs.Texts.{ReadsText}
 use Rattle.listing.specs.Run.{run_of}
 use Rattle.listing.specs.Listing.{text_of}
-use Rattle.agreement.specs.Runs.{Held, begun, answered, declines, called, ran}
+use Rattle.agreement.specs.Runs.{Held, at_hand, begun, answered, declines, called, ran}
 use Rattle.agreement.specs.Fits.{first_of}
 use Rattle.agreement.specs.Sorted.{Sound}
 use Rattle.agreement.proofs.Sorted.{sorted}
@@ -30,7 +30,7 @@ use Rattle.agreement.proofs.Evaluated.{evaluated}
 use Rattle.agreement.proofs.Image.{fld-80-run, fstp-80-run}
 use Rattle.agreement.specs.Image.Lifts.{Loads, Stores}
 use Rattle.agreement.specs.Bench.{AllHold, table, bench}
-use Rattle.agreement.specs.Determined.{Determined₂, lifter·lift}
+use Rattle.agreement.specs.Determined.{Determined₁, lifter·lift}
 use Rattle.agreement.specs.Forgets.{Forgets, RunForgets}
 use Rattle.agreement.proofs.Forgets.{forgets, run-forgets}
 use Rattle.agreement.proofs.Handed.{two-calls}
@@ -89,9 +89,9 @@ theorem-3-store = fstp-80-run
 pub theorem-4 : AllHold table
 theorem-4 = bench
 
--- 5 EVERY PROMISE DETERMINES ITS ANSWER: any two answers that meet a public call's contract are equal, and so is what they leave in each lent slice.
+-- 5 EVERY PROMISE DETERMINES ITS ANSWER: any two answers that meet a public call's contract are equal, and so is what they leave in each lent slice and state.
 -- This is the line of `lifter::lift`; Determined has one for each public call
-pub theorem-5 : Determined₂ Rattle.lifter.proofs.lift.Reads.Post (λ κ x. x.0.now) (λ κ x. x.1.0.now)
+pub theorem-5 : Determined₁ Rattle.lifter.proofs.lift.Reads.Post (λ κ x. at_hand x.0.now)
 theorem-5 = lifter·lift
 
 -- 6 A DECLINE FORGETS: behind a call that declines, from any state, no place, node or statement reaches a node from before it, and no input is a variable from before it;

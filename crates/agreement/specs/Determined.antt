@@ -3,7 +3,7 @@
 -- Each line cites the contract itself, as the toolchain has it of the source: `Post` is what the call's `ensures` claims, at its lifetimes κ and its arguments a,
 -- of an answer (r, s) and of the parameters at exit (x, y), of which what is lent is its `now`
 use Rattle.std.specs.Prelude.{◌≡◌, refl, Bool, true, false, cond, Option, Result, Ok, Err, List, [], ◌∷◌, ℕ, ◌<◌}
-use Rattle.std.proofs.Common.{sym, ap, ◌∙◌, arith}
+use Rattle.std.proofs.Common.{arith, sym, ap, ◌∙◌}
 use seplogic.Ra.Ura.{Ura}
 use types.Logic.{Logic}
 use contract.Notation.{connectives}
@@ -11,15 +11,19 @@ use Rattle.std.specs.Borrow.{Bor}
 use Rattle.records.specs.Reading.{Reading, reading}
 use Rattle.records.specs.declared.Refusal.{Refusal}
 use Rattle.reader.specs.declared.Reader.{Reader}
-use Rattle.lists.specs.Steps.{Built, Did, Told, Does}
+use Rattle.lists.specs.Steps.{Built, Does}
 use Rattle.lists.specs.declared.State.{State}
-use Rattle.lists.specs.declared.Step.{Step}
-use Rattle.lists.specs.declared.Pushed.{Pushed}
-use Rattle.memory.specs.declared.Done.{Done}
+use Rattle.lists.specs.declared.LiftCtx.{LiftCtx}
+use Rattle.lists.specs.declared.X87Error.{X87Error}
+use Rattle.lists.specs.declared.X87Error.TheVariants.{StackOverflow}
+use Rattle.moves.specs.Pushes.{pushed_number}
 use Rattle.forms.specs.declared.Instruction.{Instruction}
-use Rattle.details.specs.Why.{detail_of}
+use Rattle.details.specs.Why.{beside_of, detail_of}
 use Rattle.lifter.specs.Lift as lifter
 use Rattle.lifter.specs.declared.Lifted as lifter-declared
+use Rattle.lifter.specs.declared.Lifted.TheVariants as lifted
+use Rattle.lifter.specs.declared.Refusal as lifter-refusal
+use Rattle.lifter.specs.declared.Refusal.TheVariants as refusal
 use Rattle.writing.specs.Bytes.{decimal, bits}
 use Rattle.writing.specs.Put.{InWords, Wrote}
 use Rattle.writing.specs.Fits.{Fits}
@@ -44,6 +48,7 @@ use Rattle.export.specs.Steps.{Stepped, Steps}
 use Rattle.export.specs.Values.{ReadsImage, WritesImage, ChecksNodes, EvaluatesNodes}
 use Rattle.export.specs.Flat.{at_least}
 use Rattle.export.specs.Texts.{Answers, WritesText, ReadsText}
+use Rattle.agreement.specs.Runs.{at_hand}
 
 -- What a contract claims, at lifetimes, of arguments, an answer and the parameters at exit
 module _ {L : Type 0} {A R E : L → Type 0} (P : (κ : L) → A κ → R κ → E κ → Type 0) where
@@ -51,20 +56,20 @@ module _ {L : Type 0} {A R E : L → Type 0} (P : (κ : L) → A κ → R κ →
   abbrev pub Fixes : {B : Type 0} → ((κ : L) → R κ → E κ → B) → Type 0
   Fixes f = (κ : L) (a : A κ) (r s : R κ) (x y : E κ) → P κ a r x → P κ a s y → f κ r x ≡ f κ s y
 
-  -- .. the answer; the answer and what one, two, .. lent slices hold at exit
+  -- .. the answer; the answer and what one, two, .. parameters that it is lent hold at exit: words, a state, or what a lift works on
   abbrev pub Determined : Type 0
   Determined = (κ : L) (a : A κ) (r s : R κ) (x y : E κ) → P κ a r x → P κ a s y → r ≡ s
 
   abbrev pub Determined₁ : {B : Type 0} → ((κ : L) → E κ → B) → Type 0
   Determined₁ l = (κ : L) (a : A κ) (r s : R κ) (x y : E κ) → P κ a r x → P κ a s y → (r ≡ s) × (l κ x ≡ l κ y)
 
-  abbrev pub Determined₂ : (l m : (κ : L) → E κ → List ℕ) → Type 0
+  abbrev pub Determined₂ : {B C : Type 0} → ((κ : L) → E κ → B) → ((κ : L) → E κ → C) → Type 0
   Determined₂ l m = (κ : L) (a : A κ) (r s : R κ) (x y : E κ) → P κ a r x → P κ a s y → (r ≡ s) × (l κ x ≡ l κ y) × (m κ x ≡ m κ y)
 
-  abbrev pub Determined₃ : (l m n : (κ : L) → E κ → List ℕ) → Type 0
+  abbrev pub Determined₃ : {B C D : Type 0} → ((κ : L) → E κ → B) → ((κ : L) → E κ → C) → ((κ : L) → E κ → D) → Type 0
   Determined₃ l m n = (κ : L) (a : A κ) (r s : R κ) (x y : E κ) → P κ a r x → P κ a s y → (r ≡ s) × (l κ x ≡ l κ y) × (m κ x ≡ m κ y) × (n κ x ≡ n κ y)
 
-  abbrev pub Determined₄ : (l m n o : (κ : L) → E κ → List ℕ) → Type 0
+  abbrev pub Determined₄ : {B C D F : Type 0} → ((κ : L) → E κ → B) → ((κ : L) → E κ → C) → ((κ : L) → E κ → D) → ((κ : L) → E κ → F) → Type 0
   Determined₄ l m n o =
       (κ : L) (a : A κ) (r s : R κ) (x y : E κ) → P κ a r x → P κ a s y → (r ≡ s) × (l κ x ≡ l κ y) × (m κ x ≡ m κ y) × (n κ x ≡ n κ y) × (o κ x ≡ o κ y)
 
@@ -84,53 +89,78 @@ follows : {A : Type 0} {x r s : A} {l m : List ℕ} (f : A → List ℕ) → (r 
 follows f p q = let e = p.0 ∙ sym q.0 in (e, p.1 ∙ ap f e ∙ sym q.1)
 
 -- structs with equal fields are equal
-step_same : {r s : Step} → r.state ≡ s.state → r.at ≡ s.at → r ≡ s
-step_same p q = λ i. record { state = p i; at = q i }
-
-pushed-same : {r s : Pushed} → r.state ≡ s.state → r.overflow ≡ s.overflow → r ≡ s
-pushed-same p q = λ i. record { state = p i; overflow = q i }
-
-done-same : {r s : Done} → r.state ≡ s.state → r.answer ≡ s.answer → r ≡ s
-done-same p q = λ i. record { state = p i; answer = q i }
-
-lifted-same : {r s : lifter-declared.Lifted} → r.state ≡ s.state → r.answer ≡ s.answer → r.detail ≡ s.detail → r ≡ s
-lifted-same p q w = λ i. record { state = p i; answer = q i; detail = w i }
-
 reader-same : {r s : Reader} → r.input ≡ s.input → r.at ≡ s.at → r ≡ s
 reader-same p q = λ i. record { input = p i; at = q i }
 
-pushed : {x : State} {y : Bool} (r s : Pushed) → (r.state ≡ x) × (r.overflow ≡ y) → (s.state ≡ x) × (s.overflow ≡ y) → r ≡ s
-pushed r s p q = pushed-same (p.0 ∙ sym q.0) (p.1 ∙ sym q.1)
+-- what a push answers is known by its number
+zero≢two : ◌≡◌ {A = ℕ} 0 2 → ⊥
+zero≢two e = omega arith
 
-module _ {b : Built} {old l m : List ℕ} where
-  did : (r s : Step) → Did b r.state r.at old l → Did b s.state s.at old m → (r ≡ s) × (l ≡ m)
-  did r s p q = (step_same (p.state ∙ sym q.state) (p.number ∙ sym q.number), cc)
+pushed : (r s : Result Unit X87Error) → pushed_number r ≡ pushed_number s → r ≡ s
+pushed (Ok _) (Ok _) e = refl
+pushed (Ok _) (Err _) e = absurd (zero≢two e)
+pushed (Err _) (Ok _) e = absurd (zero≢two (sym e))
+pushed (Err StackOverflow) (Err StackOverflow) e = refl
 
-  did-state : {r s : State} → Did b r 0 old l → Did b s 0 old m → (r ≡ s) × (l ≡ m)
-  did-state p q = (cc, cc)
+-- what a lift came to, by its number and the detail that stands in it
+abbrev Lowered : Type 0
+Lowered = Result lifter-declared.Lifted lifter-refusal.Refusal
 
-  did-done : (r s : Done) → Did b r.state r.answer old l → Did b s.state s.answer old m → (r ≡ s) × (l ≡ m)
-  did-done r s p q = (done-same (p.state ∙ sym q.state) (p.number ∙ sym q.number), cc)
+unfoldable outcome : ℕ → ℕ → Lowered
+outcome n d =
+    cond (eqb n 0) (Ok lifted.Modelled)
+    (cond (eqb n 1) (Ok (lifted.Declined d))
+    (cond (eqb n 2) (Ok lifted.Overflowed)
+    (cond (eqb n 3) (Err refusal.BadText)
+    (cond (eqb n 4) (Err refusal.BadOperands)
+    (cond (eqb n 5) (Err refusal.BadState)
+    (cond (eqb n 6) (Err refusal.NodesFull)
+    (Err refusal.StatementsFull)))))))
 
-  told : {r s : State} → Told b r 0 old l → Told b s 0 old m → (r ≡ s) × (l ≡ m)
-  told p q = (cc, cc)
+outcome_is : (r : Lowered) → outcome (lifter.number_of r) (lifter.detail_in r) ≡ r
+unfolding outcome
+outcome_is (Ok lifted.Modelled) = refl
+outcome_is (Ok (lifted.Declined d)) = refl
+outcome_is (Ok lifted.Overflowed) = refl
+outcome_is (Err refusal.BadText) = refl
+outcome_is (Err refusal.BadOperands) = refl
+outcome_is (Err refusal.BadState) = refl
+outcome_is (Err refusal.NodesFull) = refl
+outcome_is (Err refusal.StatementsFull) = refl
 
-  told-done : (r s : Done) → Told b r.state r.answer old l → Told b s.state s.answer old m → (r ≡ s) × (l ≡ m)
-  told-done r s p q = (done-same (p.state ∙ sym q.state) (p.number ∙ sym q.number), cc)
+outcomes : (r s : Lowered) → lifter.number_of r ≡ lifter.number_of s → lifter.detail_in r ≡ lifter.detail_in s → r ≡ s
+outcomes r s p q = sym (outcome_is r) ∙ (λ i. outcome (p i) (q i)) ∙ outcome_is s
 
-module _ {b : Built} {old l m old₂ l₂ m₂ : List ℕ} where
-  does : (r s : Done) → Does b r.state r.answer old l old₂ l₂ → Does b s.state s.answer old m old₂ m₂ → (r ≡ s) × (l ≡ m) × (l₂ ≡ m₂)
-  does r s p q = (done-same (p.state ∙ sym q.state) (p.number ∙ sym q.number), cc, cc)
+module _ {b : Built} {old l m : LiftCtx} where
+  hands : {v w : ℕ} → Does b old l v → Does b old m w → at_hand l ≡ at_hand m
+  hands p q = λ i. record { st = (p.state ∙ sym q.state) i; nodes = (p.list ∙ sym q.list) i; statements = (p.said ∙ sym q.said) i }
 
-  does-step : (r s : Step) → Does b r.state r.at old l old₂ l₂ → Does b s.state s.at old m old₂ m₂ → (r ≡ s) × (l ≡ m) × (l₂ ≡ m₂)
-  does-step r s p q = (step_same (p.state ∙ sym q.state) (p.number ∙ sym q.number), cc, cc)
+  -- the node or the place that is answered, nothing, or what a push or a lift comes to
+  does : {v w : ℕ} → Does b old l v → Does b old m w → (v ≡ w) × (at_hand l ≡ at_hand m)
+  does p q = (p.number ∙ sym q.number, hands p q)
 
-  -- .. and the detail, which follows from the answer
-  lift : {i : Instruction} (r s : lifter-declared.Lifted) → lifter.Lifts b i r.state r.answer r.detail old l old₂ l₂ → lifter.Lifts b i s.state s.answer s.detail old m old₂ m₂
-      → (r ≡ s) × (l ≡ m) × (l₂ ≡ m₂)
-  lift {i = i} r s p q =
+  does-quietly : {r s : Unit {0}} {v w : ℕ} → Does b old l v → Does b old m w → (r ≡ s) × (at_hand l ≡ at_hand m)
+  does-quietly p q = (refl, hands p q)
+
+  does-push : (r s : Result Unit X87Error) → Does b old l (pushed_number r) → Does b old m (pushed_number s) → (r ≡ s) × (at_hand l ≡ at_hand m)
+  does-push r s p q = (pushed r s (p.number ∙ sym q.number), hands p q)
+
+  does-lower : {d : ℕ} (r s : Lowered) → lifter.Lowers b d old l r → lifter.Lowers b d old m s → (r ≡ s) × (at_hand l ≡ at_hand m)
+  does-lower {d} r s p q =
       let a = p.does.number ∙ sym q.does.number in
-      (lifted-same (p.does.state ∙ sym q.does.state) a (p.detail-is ∙ ap (λ (n : ℕ). detail_of n i) a ∙ sym q.detail-is), p.does.list ∙ sym q.does.list, p.does.said ∙ sym q.does.said)
+      (outcomes r s a (p.detail-is ∙ ap (λ (n : ℕ). beside_of n d) a ∙ sym q.detail-is), hands p.does q.does)
+
+  does-lift : {i : Instruction} (r s : Lowered) → lifter.Lifts b i old l r → lifter.Lifts b i old m s → (r ≡ s) × (at_hand l ≡ at_hand m)
+  does-lift {i} r s p q =
+      let a = p.does.number ∙ sym q.does.number in
+      (outcomes r s a (p.detail-is ∙ ap (λ (n : ℕ). detail_of n i) a ∙ sym q.detail-is), hands p.does q.does)
+
+-- a method of the state
+pushes : {x : State} {y r s : Result Unit X87Error} {l m : State} → (l ≡ x) × (r ≡ y) → (m ≡ x) × (s ≡ y) → (r ≡ s) × (l ≡ m)
+pushes p q = (p.1 ∙ sym q.1, p.0 ∙ sym q.0)
+
+leaves : {x l m : State} {r s : Unit {0}} → l ≡ x → m ≡ x → (r ≡ s) × (l ≡ m)
+leaves p q = (refl, p ∙ sym q)
 
 module _ {r s : ℕ} where
   tells : {k : ℕ} {x : Said} {out l m : List ℕ} → Tells k x out r l → Tells k x out s m → (r ≡ s) × (l ≡ m)
@@ -218,25 +248,25 @@ texts·eq-ignore-ascii-case κ a r s x y = one
 pub texts·slot-index : Determined Rattle.texts.proofs.slot_index.Reads.Post
 texts·slot-index κ a r s x y = one
 
-pub texts·as-bytes : Fixes Rattle.texts.proofs.Text.as_bytes.Reads.Post (λ κ r x. r.now)
-texts·as-bytes κ a r s x y = one
+pub texts·Text·as-bytes : Fixes Rattle.texts.proofs.Text.as_bytes.Reads.Post (λ κ r x. r.now)
+texts·Text·as-bytes κ a r s x y = one
 
-pub texts·is-valid : Determined Rattle.texts.proofs.Text.is_valid.Reads.Post
-texts·is-valid κ a r s x y = one
+pub texts·Text·is-valid : Determined Rattle.texts.proofs.Text.is_valid.Reads.Post
+texts·Text·is-valid κ a r s x y = one
 
 -- words
 
-pub words·low : Determined Rattle.words.proofs.Wide.low.Reads.Post
-words·low κ a r s x y = one
+pub words·Wide·low : Determined Rattle.words.proofs.Wide.low.Reads.Post
+words·Wide·low κ a r s x y = one
 
-pub words·extract : Determined Rattle.words.proofs.Wide.extract.Reads.Post
-words·extract κ a r s x y = one
+pub words·Wide·extract : Determined Rattle.words.proofs.Wide.extract.Reads.Post
+words·Wide·extract κ a r s x y = one
 
-pub words·concat : Determined Rattle.words.proofs.Wide.concat.Reads.Post
-words·concat κ a r s x y = one
+pub words·Wide·concat : Determined Rattle.words.proofs.Wide.concat.Reads.Post
+words·Wide·concat κ a r s x y = one
 
-pub words·fits : Determined Rattle.words.proofs.Wide.fits.Reads.Post
-words·fits κ a r s x y = one
+pub words·Wide·fits : Determined Rattle.words.proofs.Wide.fits.Reads.Post
+words·Wide·fits κ a r s x y = one
 
 pub words·le : (N : _) (n : _) → Determined (Rattle.words.proofs.bytes.le.Reads.Post N n)
 words·le N n κ a r s x y = within
@@ -277,248 +307,242 @@ details·beside κ a r s x y = one
 
 -- records
 
-pub records·number : Determined Rattle.records.proofs.Refusal.number.Reads.Post
-records·number κ a r s x y = one
+pub records·Refusal·number : Determined Rattle.records.proofs.Refusal.number.Reads.Post
+records·Refusal·number κ a r s x y = one
 
 pub records·read-record : Determined₁ Rattle.records.proofs.read_record.Reads.Post (λ κ x. x.1.0.now)
 records·read-record κ a r s x y = reading-same r s
 
 -- reader
 
-pub reader·new : Determined Rattle.reader.proofs.Reader.new.Reads.Post
-reader·new κ a r s x y = placed
+pub reader·Reader·new : Determined Rattle.reader.proofs.Reader.new.Reads.Post
+reader·Reader·new κ a r s x y = placed
 
-pub reader·moved : Determined Rattle.reader.proofs.Reader.moved.Reads.Post
-reader·moved κ a r s x y = placed
+pub reader·Reader·moved : Determined Rattle.reader.proofs.Reader.moved.Reads.Post
+reader·Reader·moved κ a r s x y = placed
 
-pub reader·take : Determined₁ Rattle.reader.proofs.Reader.take.Reads.Post (λ κ x. x.0.now)
-reader·take κ a r s x y = takes
+pub reader·Reader·take : Determined₁ Rattle.reader.proofs.Reader.take.Reads.Post (λ κ x. x.0.now)
+reader·Reader·take κ a r s x y = takes
 
-pub reader·record-at : Determined₁ Rattle.reader.proofs.Reader.record_at.Reads.Post (λ κ x. x.0.now)
-reader·record-at κ a r s x y = takes
+pub reader·Reader·record-at : Determined₁ Rattle.reader.proofs.Reader.record_at.Reads.Post (λ κ x. x.0.now)
+reader·Reader·record-at κ a r s x y = takes
 
 -- lists
-
-pub lists·new : Determined Rattle.lists.proofs.new.Reads.Post
-lists·new κ a r s x y = one
 
 pub lists·room : Determined Rattle.lists.proofs.room.Reads.Post
 lists·room κ a r s x y = one
 
-pub lists·node : Determined₁ Rattle.lists.proofs.node.Reads.Post (λ κ x. x.0.now)
-lists·node κ a r s x y = did r s
+pub lists·LiftCtx·node : Determined₁ Rattle.lists.proofs.LiftCtx.node.Reads.Post (λ κ x. at_hand x.0.now)
+lists·LiftCtx·node κ a r s x y = does
 
-pub lists·constant : Determined₁ Rattle.lists.proofs.constant.Reads.Post (λ κ x. x.0.now)
-lists·constant κ a r s x y = did r s
+pub lists·LiftCtx·constant : Determined₁ Rattle.lists.proofs.LiftCtx.constant.Reads.Post (λ κ x. at_hand x.0.now)
+lists·LiftCtx·constant κ a r s x y = does
 
-pub lists·statement : Determined₁ Rattle.lists.proofs.statement.Reads.Post (λ κ x. x.0.now)
-lists·statement κ a r s x y = told
+pub lists·LiftCtx·statement : Determined₁ Rattle.lists.proofs.LiftCtx.statement.Reads.Post (λ κ x. at_hand x.0.now)
+lists·LiftCtx·statement κ a r s x y = does-quietly
 
-pub lists·fresh-input : Determined₁ Rattle.lists.proofs.fresh_input.Reads.Post (λ κ x. x.0.now)
-lists·fresh-input κ a r s x y = did r s
+pub lists·LiftCtx·fresh : Determined₁ Rattle.lists.proofs.LiftCtx.fresh.Reads.Post (λ κ x. at_hand x.0.now)
+lists·LiftCtx·fresh κ a r s x y = does
 
-pub lists·fresh-status : Determined₁ Rattle.lists.proofs.fresh_status.Reads.Post (λ κ x. x.0.now)
-lists·fresh-status κ a r s x y = did r s
+pub lists·LiftCtx·temporary : Determined₁ Rattle.lists.proofs.LiftCtx.temporary.Reads.Post (λ κ x. at_hand x.0.now)
+lists·LiftCtx·temporary κ a r s x y = does
 
-pub lists·temporary : Determined₁ Rattle.lists.proofs.temporary.Reads.Post (λ κ x. x.0.now)
-lists·temporary κ a r s x y = did r s
+pub lists·LiftCtx·ensure : Determined₁ Rattle.lists.proofs.LiftCtx.ensure.Reads.Post (λ κ x. at_hand x.0.now)
+lists·LiftCtx·ensure κ a r s x y = does-quietly
 
-pub lists·havoc : Determined Rattle.lists.proofs.havoc.Reads.Post
-lists·havoc κ a r s x y = one
+pub lists·LiftCtx·read : Determined₁ Rattle.lists.proofs.LiftCtx.read.Reads.Post (λ κ x. at_hand x.0.now)
+lists·LiftCtx·read κ a r s x y = does
 
-pub lists·ensure : Determined₁ Rattle.lists.proofs.ensure.Reads.Post (λ κ x. x.0.now)
-lists·ensure κ a r s x y = did-state
+pub lists·LiftCtx·write : Determined₁ Rattle.lists.proofs.LiftCtx.write.Reads.Post (λ κ x. at_hand x.0.now)
+lists·LiftCtx·write κ a r s x y = does-quietly
 
-pub lists·read : Determined₁ Rattle.lists.proofs.read.Reads.Post (λ κ x. x.0.now)
-lists·read κ a r s x y = did r s
+pub lists·LiftCtx·pop : Determined₁ Rattle.lists.proofs.LiftCtx.pop.Reads.Post (λ κ x. at_hand x.0.now)
+lists·LiftCtx·pop κ a r s x y = does
 
-pub lists·write : Determined₁ Rattle.lists.proofs.write.Reads.Post (λ κ x. x.0.now)
-lists·write κ a r s x y = did-state
+pub lists·LiftCtx·exchange : Determined₁ Rattle.lists.proofs.LiftCtx.exchange.Reads.Post (λ κ x. at_hand x.0.now)
+lists·LiftCtx·exchange κ a r s x y = does-quietly
 
-pub lists·push : Determined Rattle.lists.proofs.push.Reads.Post
-lists·push κ a r s x y = pushed r s
+pub lists·State·new : Determined Rattle.lists.proofs.State.new.Reads.Post
+lists·State·new κ a r s x y = one
 
-pub lists·drop-top : Determined Rattle.lists.proofs.drop_top.Reads.Post
-lists·drop-top κ a r s x y = one
+pub lists·State·havoc : Determined₁ Rattle.lists.proofs.State.havoc.Reads.Post (λ κ x. x.0.now)
+lists·State·havoc κ a r s x y = leaves
 
-pub lists·pop : Determined₁ Rattle.lists.proofs.pop.Reads.Post (λ κ x. x.0.now)
-lists·pop κ a r s x y = did r s
+pub lists·State·push : Determined₁ Rattle.lists.proofs.State.push.Reads.Post (λ κ x. x.0.now)
+lists·State·push κ a r s x y = pushes
 
-pub lists·exchange : Determined₁ Rattle.lists.proofs.exchange.Reads.Post (λ κ x. x.0.now)
-lists·exchange κ a r s x y = did-state
+pub lists·State·drop-top : Determined₁ Rattle.lists.proofs.State.drop_top.Reads.Post (λ κ x. x.0.now)
+lists·State·drop-top κ a r s x y = leaves
 
-pub lists·valid : Determined Rattle.lists.proofs.valid.Reads.Post
-lists·valid κ a r s x y = one
+pub lists·State·valid : Determined Rattle.lists.proofs.State.valid.Reads.Post
+lists·State·valid κ a r s x y = one
 
 -- exprs
 
-pub exprs·slot-var : Determined₁ Rattle.exprs.proofs.slot_var.Reads.Post (λ κ x. x.0.now)
-exprs·slot-var κ a r s x y = did r s
+pub exprs·slot-var : Determined₁ Rattle.exprs.proofs.slot_var.Reads.Post (λ κ x. at_hand x.0.now)
+exprs·slot-var κ a r s x y = does
 
-pub exprs·fsw : Determined₁ Rattle.exprs.proofs.fsw.Reads.Post (λ κ x. x.0.now)
-exprs·fsw κ a r s x y = did r s
+pub exprs·fsw : Determined₁ Rattle.exprs.proofs.fsw.Reads.Post (λ κ x. at_hand x.0.now)
+exprs·fsw κ a r s x y = does
 
-pub exprs·flag : Determined₁ Rattle.exprs.proofs.flag.Reads.Post (λ κ x. x.0.now)
-exprs·flag κ a r s x y = did r s
+pub exprs·flag : Determined₁ Rattle.exprs.proofs.flag.Reads.Post (λ κ x. at_hand x.0.now)
+exprs·flag κ a r s x y = does
 
-pub exprs·wide-konst : Determined₁ Rattle.exprs.proofs.wide_konst.Reads.Post (λ κ x. x.0.now)
-exprs·wide-konst κ a r s x y = did r s
+pub exprs·konst : Determined₁ Rattle.exprs.proofs.konst.Reads.Post (λ κ x. at_hand x.0.now)
+exprs·konst κ a r s x y = does
 
-pub exprs·konst : Determined₁ Rattle.exprs.proofs.konst.Reads.Post (λ κ x. x.0.now)
-exprs·konst κ a r s x y = did r s
+pub exprs·bv-and : Determined₁ Rattle.exprs.proofs.bv_and.Reads.Post (λ κ x. at_hand x.0.now)
+exprs·bv-and κ a r s x y = does
 
-pub exprs·bv-and : Determined₁ Rattle.exprs.proofs.bv_and.Reads.Post (λ κ x. x.0.now)
-exprs·bv-and κ a r s x y = did r s
+pub exprs·bv-xor : Determined₁ Rattle.exprs.proofs.bv_xor.Reads.Post (λ κ x. at_hand x.0.now)
+exprs·bv-xor κ a r s x y = does
 
-pub exprs·bv-xor : Determined₁ Rattle.exprs.proofs.bv_xor.Reads.Post (λ κ x. x.0.now)
-exprs·bv-xor κ a r s x y = did r s
+pub exprs·eq : Determined₁ Rattle.exprs.proofs.eq.Reads.Post (λ κ x. at_hand x.0.now)
+exprs·eq κ a r s x y = does
 
-pub exprs·eq : Determined₁ Rattle.exprs.proofs.eq.Reads.Post (λ κ x. x.0.now)
-exprs·eq κ a r s x y = did r s
+pub exprs·bool-and : Determined₁ Rattle.exprs.proofs.bool_and.Reads.Post (λ κ x. at_hand x.0.now)
+exprs·bool-and κ a r s x y = does
 
-pub exprs·bool-and : Determined₁ Rattle.exprs.proofs.bool_and.Reads.Post (λ κ x. x.0.now)
-exprs·bool-and κ a r s x y = did r s
+pub exprs·bool-or : Determined₁ Rattle.exprs.proofs.bool_or.Reads.Post (λ κ x. at_hand x.0.now)
+exprs·bool-or κ a r s x y = does
 
-pub exprs·bool-or : Determined₁ Rattle.exprs.proofs.bool_or.Reads.Post (λ κ x. x.0.now)
-exprs·bool-or κ a r s x y = did r s
+pub exprs·bool-not : Determined₁ Rattle.exprs.proofs.bool_not.Reads.Post (λ κ x. at_hand x.0.now)
+exprs·bool-not κ a r s x y = does
 
-pub exprs·bool-not : Determined₁ Rattle.exprs.proofs.bool_not.Reads.Post (λ κ x. x.0.now)
-exprs·bool-not κ a r s x y = did r s
+pub exprs·ite : Determined₁ Rattle.exprs.proofs.ite.Reads.Post (λ κ x. at_hand x.0.now)
+exprs·ite κ a r s x y = does
 
-pub exprs·ite : Determined₁ Rattle.exprs.proofs.ite.Reads.Post (λ κ x. x.0.now)
-exprs·ite κ a r s x y = did r s
+pub exprs·extract : Determined₁ Rattle.exprs.proofs.extract.Reads.Post (λ κ x. at_hand x.0.now)
+exprs·extract κ a r s x y = does
 
-pub exprs·extract : Determined₁ Rattle.exprs.proofs.extract.Reads.Post (λ κ x. x.0.now)
-exprs·extract κ a r s x y = did r s
+pub exprs·concat : Determined₁ Rattle.exprs.proofs.concat.Reads.Post (λ κ x. at_hand x.0.now)
+exprs·concat κ a r s x y = does
 
-pub exprs·concat : Determined₁ Rattle.exprs.proofs.concat.Reads.Post (λ κ x. x.0.now)
-exprs·concat κ a r s x y = did r s
+pub exprs·feq : Determined₁ Rattle.exprs.proofs.feq.Reads.Post (λ κ x. at_hand x.0.now)
+exprs·feq κ a r s x y = does
 
-pub exprs·feq : Determined₁ Rattle.exprs.proofs.feq.Reads.Post (λ κ x. x.0.now)
-exprs·feq κ a r s x y = did r s
+pub exprs·flt : Determined₁ Rattle.exprs.proofs.flt.Reads.Post (λ κ x. at_hand x.0.now)
+exprs·flt κ a r s x y = does
 
-pub exprs·flt : Determined₁ Rattle.exprs.proofs.flt.Reads.Post (λ κ x. x.0.now)
-exprs·flt κ a r s x y = did r s
+pub exprs·fisnan : Determined₁ Rattle.exprs.proofs.fisnan.Reads.Post (λ κ x. at_hand x.0.now)
+exprs·fisnan κ a r s x y = does
 
-pub exprs·fisnan : Determined₁ Rattle.exprs.proofs.fisnan.Reads.Post (λ κ x. x.0.now)
-exprs·fisnan κ a r s x y = did r s
+pub exprs·fsqrt : Determined₁ Rattle.exprs.proofs.fsqrt.Reads.Post (λ κ x. at_hand x.0.now)
+exprs·fsqrt κ a r s x y = does
 
-pub exprs·fsqrt : Determined₁ Rattle.exprs.proofs.fsqrt.Reads.Post (λ κ x. x.0.now)
-exprs·fsqrt κ a r s x y = did r s
+pub exprs·fround-to-integral : Determined₁ Rattle.exprs.proofs.fround_to_integral.Reads.Post (λ κ x. at_hand x.0.now)
+exprs·fround-to-integral κ a r s x y = does
 
-pub exprs·fround-to-integral : Determined₁ Rattle.exprs.proofs.fround_to_integral.Reads.Post (λ κ x. x.0.now)
-exprs·fround-to-integral κ a r s x y = did r s
+pub exprs·bv-to-fp : Determined₁ Rattle.exprs.proofs.bv_to_fp.Reads.Post (λ κ x. at_hand x.0.now)
+exprs·bv-to-fp κ a r s x y = does
 
-pub exprs·bv-to-fp : Determined₁ Rattle.exprs.proofs.bv_to_fp.Reads.Post (λ κ x. x.0.now)
-exprs·bv-to-fp κ a r s x y = did r s
+pub exprs·fp-to-ieee-bv : Determined₁ Rattle.exprs.proofs.fp_to_ieee_bv.Reads.Post (λ κ x. at_hand x.0.now)
+exprs·fp-to-ieee-bv κ a r s x y = does
 
-pub exprs·fp-to-ieee-bv : Determined₁ Rattle.exprs.proofs.fp_to_ieee_bv.Reads.Post (λ κ x. x.0.now)
-exprs·fp-to-ieee-bv κ a r s x y = did r s
+pub exprs·fp-to-sbv : Determined₁ Rattle.exprs.proofs.fp_to_sbv.Reads.Post (λ κ x. at_hand x.0.now)
+exprs·fp-to-sbv κ a r s x y = does
 
-pub exprs·fp-to-sbv : Determined₁ Rattle.exprs.proofs.fp_to_sbv.Reads.Post (λ κ x. x.0.now)
-exprs·fp-to-sbv κ a r s x y = did r s
+pub exprs·sbv-to-fp : Determined₁ Rattle.exprs.proofs.sbv_to_fp.Reads.Post (λ κ x. at_hand x.0.now)
+exprs·sbv-to-fp κ a r s x y = does
 
-pub exprs·sbv-to-fp : Determined₁ Rattle.exprs.proofs.sbv_to_fp.Reads.Post (λ κ x. x.0.now)
-exprs·sbv-to-fp κ a r s x y = did r s
-
-pub exprs·fp-to-fp : Determined₁ Rattle.exprs.proofs.fp_to_fp.Reads.Post (λ κ x. x.0.now)
-exprs·fp-to-fp κ a r s x y = did r s
+pub exprs·fp-to-fp : Determined₁ Rattle.exprs.proofs.fp_to_fp.Reads.Post (λ κ x. at_hand x.0.now)
+exprs·fp-to-fp κ a r s x y = does
 
 pub exprs·is-image : Determined Rattle.exprs.proofs.is_image.Reads.Post
 exprs·is-image κ a r s x y = one
 
-pub exprs·as-extended : Determined₁ Rattle.exprs.proofs.as_extended.Reads.Post (λ κ x. x.0.now)
-exprs·as-extended κ a r s x y = did r s
+pub exprs·as-extended : Determined₁ Rattle.exprs.proofs.as_extended.Reads.Post (λ κ x. at_hand x.0.now)
+exprs·as-extended κ a r s x y = does
 
-pub exprs·from-extended : Determined₁ Rattle.exprs.proofs.from_extended.Reads.Post (λ κ x. x.0.now)
-exprs·from-extended κ a r s x y = did r s
+pub exprs·from-extended : Determined₁ Rattle.exprs.proofs.from_extended.Reads.Post (λ κ x. at_hand x.0.now)
+exprs·from-extended κ a r s x y = does
 
-pub exprs·extended-arith : Determined₁ Rattle.exprs.proofs.extended_arith.Reads.Post (λ κ x. x.0.now)
-exprs·extended-arith κ a r s x y = did r s
+pub exprs·extended-arith : Determined₁ Rattle.exprs.proofs.extended_arith.Reads.Post (λ κ x. at_hand x.0.now)
+exprs·extended-arith κ a r s x y = does
 
-pub exprs·extended-from-memory : Determined₁ Rattle.exprs.proofs.extended_from_memory.Reads.Post (λ κ x. x.0.now)
-exprs·extended-from-memory κ a r s x y = did r s
+pub exprs·extended-from-memory : Determined₁ Rattle.exprs.proofs.extended_from_memory.Reads.Post (λ κ x. at_hand x.0.now)
+exprs·extended-from-memory κ a r s x y = does
 
-pub exprs·extended-to-memory : Determined₁ Rattle.exprs.proofs.extended_to_memory.Reads.Post (λ κ x. x.0.now)
-exprs·extended-to-memory κ a r s x y = did r s
+pub exprs·extended-to-memory : Determined₁ Rattle.exprs.proofs.extended_to_memory.Reads.Post (λ κ x. at_hand x.0.now)
+exprs·extended-to-memory κ a r s x y = does
 
-pub exprs·to-slot : Determined₁ Rattle.exprs.proofs.to_slot.Reads.Post (λ κ x. x.0.now)
-exprs·to-slot κ a r s x y = did r s
+pub exprs·to-slot : Determined₁ Rattle.exprs.proofs.to_slot.Reads.Post (λ κ x. at_hand x.0.now)
+exprs·to-slot κ a r s x y = does
 
-pub exprs·from-slot : Determined₁ Rattle.exprs.proofs.from_slot.Reads.Post (λ κ x. x.0.now)
-exprs·from-slot κ a r s x y = did r s
+pub exprs·from-slot : Determined₁ Rattle.exprs.proofs.from_slot.Reads.Post (λ κ x. at_hand x.0.now)
+exprs·from-slot κ a r s x y = does
 
-pub exprs·unary : Determined₁ Rattle.exprs.proofs.unary.Reads.Post (λ κ x. x.0.now)
-exprs·unary κ a r s x y = did r s
+pub exprs·unary : Determined₁ Rattle.exprs.proofs.unary.Reads.Post (λ κ x. at_hand x.0.now)
+exprs·unary κ a r s x y = does
 
-pub exprs·unordered : Determined₁ Rattle.exprs.proofs.unordered.Reads.Post (λ κ x. x.0.now)
-exprs·unordered κ a r s x y = did r s
+pub exprs·unordered : Determined₁ Rattle.exprs.proofs.unordered.Reads.Post (λ κ x. at_hand x.0.now)
+exprs·unordered κ a r s x y = does
 
-pub exprs·predicate : Determined₁ Rattle.exprs.proofs.predicate.Reads.Post (λ κ x. x.0.now)
-exprs·predicate κ a r s x y = did r s
+pub exprs·predicate : Determined₁ Rattle.exprs.proofs.predicate.Reads.Post (λ κ x. at_hand x.0.now)
+exprs·predicate κ a r s x y = does
 
-pub exprs·x87-status-word : Determined₁ Rattle.exprs.proofs.x87_status_word.Reads.Post (λ κ x. x.0.now)
-exprs·x87-status-word κ a r s x y = did r s
+pub exprs·x87-status-word : Determined₁ Rattle.exprs.proofs.x87_status_word.Reads.Post (λ κ x. at_hand x.0.now)
+exprs·x87-status-word κ a r s x y = does
 
 -- memory
 
-pub memory·site-of : Determined Rattle.memory.proofs.site_of.Reads.Post
-memory·site-of κ a r s x y = one
+pub memory·Site·of : Determined Rattle.memory.proofs.Site.of.Reads.Post
+memory·Site·of κ a r s x y = one
 
-pub memory·x87-memory-read : Determined₂ Rattle.memory.proofs.x87_memory_read.Reads.Post (λ κ x. x.0.now) (λ κ x. x.1.0.now)
-memory·x87-memory-read κ a r s x y = does-step r s
+pub memory·x87-memory-read : Determined₁ Rattle.memory.proofs.x87_memory_read.Reads.Post (λ κ x. at_hand x.0.now)
+memory·x87-memory-read κ a r s x y = does
 
-pub memory·source : Determined₂ Rattle.memory.proofs.source.Reads.Post (λ κ x. x.0.now) (λ κ x. x.1.0.now)
-memory·source κ a r s x y = does-step r s
+pub memory·source : Determined₁ Rattle.memory.proofs.source.Reads.Post (λ κ x. at_hand x.0.now)
+memory·source κ a r s x y = does
 
-pub memory·x87-store-memory : Determined₂ Rattle.memory.proofs.x87_store_memory.Reads.Post (λ κ x. x.0.now) (λ κ x. x.1.0.now)
-memory·x87-store-memory κ a r s x y = does r s
+pub memory·x87-store-memory : Determined₁ Rattle.memory.proofs.x87_store_memory.Reads.Post (λ κ x. at_hand x.0.now)
+memory·x87-store-memory κ a r s x y = does-quietly
 
-pub memory·x87-store-status : Determined₂ Rattle.memory.proofs.x87_store_status.Reads.Post (λ κ x. x.0.now) (λ κ x. x.1.0.now)
-memory·x87-store-status κ a r s x y = does r s
+pub memory·x87-store-status : Determined₁ Rattle.memory.proofs.x87_store_status.Reads.Post (λ κ x. at_hand x.0.now)
+memory·x87-store-status κ a r s x y = does-quietly
 
 -- moves
 
-pub moves·x87-arith : Determined₂ Rattle.moves.proofs.x87_arith.Reads.Post (λ κ x. x.0.now) (λ κ x. x.1.0.now)
-moves·x87-arith κ a r s x y = does r s
+pub moves·x87-arith : Determined₁ Rattle.moves.proofs.x87_arith.Reads.Post (λ κ x. at_hand x.0.now)
+moves·x87-arith κ a r s x y = does-quietly
 
-pub moves·x87-compare-status : Determined₂ Rattle.moves.proofs.x87_compare_status.Reads.Post (λ κ x. x.0.now) (λ κ x. x.1.0.now)
-moves·x87-compare-status κ a r s x y = does r s
+pub moves·x87-compare-status : Determined₁ Rattle.moves.proofs.x87_compare_status.Reads.Post (λ κ x. at_hand x.0.now)
+moves·x87-compare-status κ a r s x y = does-quietly
 
-pub moves·x87-compare-flags : Determined₂ Rattle.moves.proofs.x87_compare_flags.Reads.Post (λ κ x. x.0.now) (λ κ x. x.1.0.now)
-moves·x87-compare-flags κ a r s x y = does r s
+pub moves·x87-compare-flags : Determined₁ Rattle.moves.proofs.x87_compare_flags.Reads.Post (λ κ x. at_hand x.0.now)
+moves·x87-compare-flags κ a r s x y = does-quietly
 
-pub moves·x87-conditional-move : Determined₁ Rattle.moves.proofs.x87_conditional_move.Reads.Post (λ κ x. x.0.now)
-moves·x87-conditional-move κ a r s x y = did-done r s
+pub moves·x87-conditional-move : Determined₁ Rattle.moves.proofs.x87_conditional_move.Reads.Post (λ κ x. at_hand x.0.now)
+moves·x87-conditional-move κ a r s x y = does-quietly
 
-pub moves·x87-unary : Determined₁ Rattle.moves.proofs.x87_unary.Reads.Post (λ κ x. x.0.now)
-moves·x87-unary κ a r s x y = did-done r s
+pub moves·x87-unary : Determined₁ Rattle.moves.proofs.x87_unary.Reads.Post (λ κ x. at_hand x.0.now)
+moves·x87-unary κ a r s x y = does-quietly
 
-pub moves·store-slot : Determined₁ Rattle.moves.proofs.store_slot.Reads.Post (λ κ x. x.0.now)
-moves·store-slot κ a r s x y = did-done r s
+pub moves·store-slot : Determined₁ Rattle.moves.proofs.store_slot.Reads.Post (λ κ x. at_hand x.0.now)
+moves·store-slot κ a r s x y = does-quietly
 
-pub moves·exchange : Determined₁ Rattle.moves.proofs.exchange.Reads.Post (λ κ x. x.0.now)
-moves·exchange κ a r s x y = did-done r s
+pub moves·decline-x87 : Determined₁ Rattle.moves.proofs.decline_x87.Reads.Post (λ κ x. at_hand x.0.now)
+moves·decline-x87 κ a r s x y = does-quietly
 
-pub moves·decline-x87 : Determined₁ Rattle.moves.proofs.decline_x87.Reads.Post (λ κ x. x.0.now)
-moves·decline-x87 κ a r s x y = told-done r s
+pub moves·push-const : Determined₁ Rattle.moves.proofs.push_const.Reads.Post (λ κ x. at_hand x.0.now)
+moves·push-const κ a r s x y = does-push r s
 
-pub moves·push-const : Determined₂ Rattle.moves.proofs.push_const.Reads.Post (λ κ x. x.0.now) (λ κ x. x.1.0.now)
-moves·push-const κ a r s x y = does r s
+pub moves·push-slot : Determined₁ Rattle.moves.proofs.push_slot.Reads.Post (λ κ x. at_hand x.0.now)
+moves·push-slot κ a r s x y = does-push r s
 
-pub moves·push-slot : Determined₂ Rattle.moves.proofs.push_slot.Reads.Post (λ κ x. x.0.now) (λ κ x. x.1.0.now)
-moves·push-slot κ a r s x y = does r s
-
-pub moves·push-memory : Determined₂ Rattle.moves.proofs.push_memory.Reads.Post (λ κ x. x.0.now) (λ κ x. x.1.0.now)
-moves·push-memory κ a r s x y = does r s
+pub moves·push-memory : Determined₁ Rattle.moves.proofs.push_memory.Reads.Post (λ κ x. at_hand x.0.now)
+moves·push-memory κ a r s x y = does-push r s
 
 -- lifter
 
-pub lifter·lift : Determined₂ Rattle.lifter.proofs.lift.Reads.Post (λ κ x. x.0.now) (λ κ x. x.1.0.now)
-lifter·lift κ a r s x y = lift r s
+pub lifter·number : Determined Rattle.lifter.proofs.number.Reads.Post
+lifter·number κ a r s x y = one
 
-pub lifter·lift-classified : Determined₂ Rattle.lifter.proofs.lift_classified.Reads.Post (λ κ x. x.0.now) (λ κ x. x.1.0.now)
-lifter·lift-classified κ a r s x y = does r s
+pub lifter·lift-classified : Determined₁ Rattle.lifter.proofs.lift_classified.Reads.Post (λ κ x. at_hand x.0.now)
+lifter·lift-classified κ a r s x y = does-lower r s
+
+pub lifter·lift : Determined₁ Rattle.lifter.proofs.lift.Reads.Post (λ κ x. at_hand x.0.now)
+lifter·lift κ a r s x y = does-lift r s
 
 -- image
 

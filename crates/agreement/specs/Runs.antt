@@ -4,6 +4,7 @@ use Rattle.lists.specs.Rows.{wrote}
 use Rattle.lists.specs.Steps.{Built, Does}
 use Rattle.lists.specs.Stack.{fresh}
 use Rattle.lists.specs.declared.State.{State}
+use Rattle.lists.specs.declared.LiftCtx.{LiftCtx}
 use Rattle.forms.specs.declared.Instruction.{Instruction}
 use Rattle.lifter.specs.Lift.{lift_of}
 
@@ -49,8 +50,11 @@ unfolding ran
 ran_append h [] js = refl
 ran_append h (i ∷ is) js = ran_append (called h i) is js
 
+-- What a lift works on is what a run holds
+abbrev pub at_hand : LiftCtx → Held
+at_hand l = record { st = l.state; nodes = l.nodes.now; statements = l.statements.now }
+
 -- What lifter::lift promises of a call makes of the words and the state what `called` says
-pub call-is : (s s' : State) (i : Instruction) (r : ℕ) (n n' m m' : List ℕ) → Does (lift_of s i n m) s' r n n' m m'
-    → called (record { st = s; nodes = n; statements = m }) i ≡ record { st = s'; nodes = n'; statements = m' }
+pub call-is : (l l' : LiftCtx) (i : Instruction) (r : ℕ) → Does (lift_of l.state i l.nodes.now l.statements.now) l l' r → called (at_hand l) i ≡ at_hand l'
 unfolding called stepped
-call-is s s' i r n n' m m' p = cc
+call-is l l' i r p = cc

@@ -3,11 +3,9 @@ use mathlib.Core.Path.{◌≡◌, refl, sym, ap, ◌∙◌}
 use mathlib.Core.Bool.{Bool, true, false, cond}
 use mathlib.Core.List.{List, [], ◌∷◌}
 use Prim.Native.Nat.{ℕ, ◌≤◌, ◌<◌}
-use lib.Dec.{leb}
 use lib.ListN.{length, take}
 use borrow.Author.Tests.{le-leb, lt-leb}
 use Rattle.texts.specs.Bytes.{all}
-use Rattle.lists.specs.declared.State.{State}
 use Rattle.forms.specs.declared.Instruction.{Instruction}
 use Rattle.std.specs.Prelude.{Option, Some, None, Result, Ok, Err}
 use Rattle.std.proofs.Common.{Bor}
@@ -17,14 +15,14 @@ use Rattle.records.specs.Reading.{Reading, got, bad, reading}
 use Rattle.records.specs.declared.Refusal.{Refusal}
 use Rattle.forms.specs.Classify.{Classified}
 use Rattle.forms.specs.Classify.{classify_of}
-use Rattle.lists.specs.Steps.{Built, Does}
+use Rattle.lists.specs.Steps.{Built}
 use Rattle.memory.specs.declared.Site.{Site}
 use Rattle.memory.specs.Site.{site_of}
 use Rattle.details.specs.Why.{detail_for, beside_of}
 use Rattle.lifter.specs.Lift.{placed_of}
 use Rattle.lifter.proofs.Answers.{lift-told, placed-lift}
 use Rattle.export.specs.Flat.{insn_of, laid}
-use Rattle.export.specs.Lifts.{Lifted, Lifts, told, placed_in, lifted_in, lifted_of, unchanged, small_is, state_in, kept_if}
+use Rattle.export.specs.Lifts.{Lifted, Lifts, told, placed_in, lifted_in, lifted_of, unchanged, small_is, state_in}
 use Rattle.export.specs.Steps.{Steps, called_of, step_of, stepped_of, told_of}
 use Rattle.export.proofs.Calls.{tells, untold}
 
@@ -32,15 +30,7 @@ use Rattle.export.proofs.Calls.{tells, untold}
 stays : (r : ℕ) (s n t : List ℕ) → Lifts (unchanged r s n t) r s n t
 stays r s n t = record { answer = refl; state = refl; nodes = refl; statements = refl }
 
--- a lift over the words of a state, and one whose words are too wide
 module _ (c : Classified) (d : ℕ) (site : Site) (s n t : List ℕ) where
-  pub lifts : all small_is (take 13 s) ≡ true → (x y : State) (r : ℕ) (s' n' t' : List ℕ) → x ≡ state_in s
-      → Does (placed_of x c d site n t) y r n n' t t' → s' ≡ kept_if (leb r 2) y s → Lifts (placed_in c d site s n t) r s' n' t'
-  lifts e x y r s' n' t' p q w = rw (e, ← p) (record { answer = q.number; state = w ∙ rw (q.number, q.state); nodes = q.list; statements = q.said })
-
-  pub too_wide : all small_is (take 13 s) ≡ false → Lifts (placed_in c d site s n t) 5 s n t
-  too_wide e = rw e (stays 5 s n t)
-
   -- the detail stands beside answer 1 alone
   placed-detail : beside_of (placed_in c d site s n t).answer d ≡ (placed_in c d site s n t).detail
   placed-detail = way (all small_is (take 13 s)) (placed_of (state_in s) c d site n t)

@@ -14,7 +14,7 @@ ghost use Rattle.export.specs.Steps.{Steps, called_of, stepped_of, told_of};
 ghost use Rattle.export.specs.Answers.{Classifies, Reasons, Affects, ReadsRecord};
 
 use forms::{Classified, Instruction};
-use lists::State;
+use lists::{LiftCtx, State};
 use memory::Site;
 use reader::Reader;
 
@@ -166,11 +166,14 @@ fn lift_in(
     ensures { Lifts (placed_in classified detail site state.old nodes.old statements.old) result state.new nodes.new statements.new }
 {
     if state::small(state) {
-        let s = state::read(state);
-        let done = lifter::lift_classified(nodes, statements, s, classified, detail, site);
-        let next = done.state;
-        keep(state, next, done.answer);
-        return done.answer;
+        let mut ctx = LiftCtx {
+            nodes,
+            statements,
+            state: state::read(state),
+        };
+        let answer = lifter::number(lifter::lift_classified(&mut ctx, classified, detail, site));
+        keep(state, ctx.state, answer);
+        return answer;
     }
     5
 }
@@ -191,7 +194,7 @@ pub fn x87_lift(
                 let insn = flat::read(flat);
                 let classified = forms::classify(&insn);
                 let detail = details::number(details::detail(classified, &insn));
-                let site = memory::site_of(insn);
+                let site = Site::of(&insn);
                 let answer = lift_in(classified, detail, site, state, nodes, statements);
                 out[0] = details::beside(answer, detail) as u64;
                 return answer;
@@ -232,7 +235,7 @@ fn lift_record_in(
         Ok(Some(insn)) => {
             let classified = forms::classify(&insn);
             let detail = details::number(details::detail(classified, &insn));
-            let site = memory::site_of(insn);
+            let site = Site::of(&insn);
             let answer = lift_in(classified, detail, site, state, nodes, statements);
             let detail = details::beside(answer, detail);
             tell(out, answer, detail, reader.at, at);

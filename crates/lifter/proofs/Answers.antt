@@ -4,13 +4,15 @@ use mathlib.Core.Bool.{Bool, true, false, cond, false≢true}
 use mathlib.Core.List.{List}
 use Prim.Native.Nat.{ℕ}
 use lib.Dec.{eqb, leb}
+use Rattle.std.specs.Prelude.{Result}
 use lib.ListN.{length}
 use Rattle.lists.specs.Rows.{room_of}
-use Rattle.lists.specs.Steps.{Built, Does, ◌▸◌, gives}
+use Rattle.lists.specs.Steps.{Built, ◌▸◌, gives}
 use Rattle.lists.specs.Valid.{valid_of}
 use Rattle.lists.specs.Nodes.{statement_of}
 use Rattle.lists.specs.Stack.{write_of, overflows, push_of, exchange_of}
 use Rattle.lists.specs.declared.State.{State}
+use Rattle.lists.specs.declared.LiftCtx.{LiftCtx}
 use Rattle.forms.specs.declared.Form.{Form}
 use Rattle.forms.specs.declared.Form.TheVariants.{PushConst, PushMemory, PushSlot, StoreMemory, StoreSlot, Arith, CompareStatus, CompareFlags, ConditionalMove, StoreStatus, Exchange, Unary}
 use Rattle.forms.specs.Classify.{Classified}
@@ -25,7 +27,9 @@ use Rattle.memory.specs.Memory.{write_dst_of, x87_store_memory_of, x87_store_sta
 use Rattle.moves.specs.Moves.{x87_arith_of, x87_compare_status_of, x87_compare_flags_of, x87_conditional_move_of, x87_unary_of, store_slot_of}
 use Rattle.moves.specs.Pushes.{decline_x87_of, land_of, push_const_of, push_slot_of, push_memory_of}
 use Rattle.lifter.specs.Apply.{apply_x87_of}
-use Rattle.lifter.specs.Lift.{lowered_of, fitting_of, placed_of, lift_of, Lifts}
+use Rattle.lifter.specs.Lift.{lowered_of, fitting_of, placed_of, lift_of, Lowers, Lifts}
+use Rattle.lifter.specs.declared.Lifted.{Lifted}
+use Rattle.lifter.specs.declared.Refusal.{Refusal}
 
 -- The answer passes a test that 0 and 2 pass
 module _ (test : ℕ → Bool) (zero-so : test 0 ≡ true) (two-so : test 2 ≡ true) where
@@ -115,9 +119,9 @@ module _ (s : State) (n m : List ℕ) where
   unfolding lift_of
   placed-lift insn = rw (detailed s (classify_of insn) insn (site_of insn))
 
-  pub lifted : (insn : Instruction) (c : Classified) (d : ℕ) (site : Site) → c ≡ classify_of insn → d ≡ detail_for c insn → site ≡ site_of insn → {t : State} {a w : ℕ} {n' m' : List ℕ}
-      → Does (placed_of s c d site n m) t a n n' m m' → w ≡ beside_of a d → Lifts (lift_of s insn n m) insn t a w n n' m m'
-  lifted insn c d site p q e x b =
+  pub lifted : (insn : Instruction) (c : Classified) (d : ℕ) (site : Site) → c ≡ classify_of insn → d ≡ detail_for c insn → site ≡ site_of insn → {l l' : LiftCtx} {r : Result Lifted Refusal}
+      → Lowers (placed_of s c d site n m) d l l' r → Lifts (lift_of s insn n m) insn l l' r
+  lifted insn c d site p q e x =
       let f = q ∙ ap (λ (c : Classified). detail_for c insn) p in
-      let y = rw (f, p, e, placed-lift insn) at x in
-      record { does = y; detail-is = rw f at b ∙ rw y.number (lift-told insn) }
+      let y = rw (f, p, e, placed-lift insn) at x.does in
+      record { does = y; detail-is = rw f at x.detail-is ∙ rw y.number (lift-told insn) }

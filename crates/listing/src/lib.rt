@@ -9,7 +9,7 @@ ghost use Rattle.listing.specs.Inside.Turn.{Turns};
 ghost use Rattle.listing.specs.Listing.{text_of};
 ghost use Rattle.writing.specs.Fits.{Fits};
 
-use lists::State;
+use lists::{LiftCtx, State};
 use print::Listing;
 use reader::Reader;
 use std::ops::ControlFlow;
@@ -51,11 +51,14 @@ fn turn(
     let at = reader.at;
     match reader.take() {
         Ok(Some(insn)) => {
-            let done = lifter::lift(nodes, statements, state, insn);
-            if done.answer <= 2 {
-                ControlFlow::Continue(done.state)
-            } else {
-                ControlFlow::Break(Stop::refused(done.state, done.answer, at))
+            let mut ctx = LiftCtx {
+                nodes,
+                statements,
+                state,
+            };
+            match lifter::lift(&mut ctx, insn) {
+                Ok(_) => ControlFlow::Continue(ctx.state),
+                Err(refusal) => ControlFlow::Break(Stop::refused(ctx.state, refusal as u32, at)),
             }
         }
         Ok(None) => ControlFlow::Break(Stop {
@@ -84,7 +87,7 @@ fn turns(input: &[u8], nodes: &mut [u64], statements: &mut [u64], start: State) 
 pub fn run(input: &[u8], nodes: &mut [u64], statements: &mut [u64]) -> Stop
     ensures { Runs (run_of input.now nodes.old statements.old) result nodes.new statements.new }
 {
-    let start = lists::new();
+    let start = State::new();
     if 16384 < input.len() {
         return Stop::refused(start, 13, 0);
     }

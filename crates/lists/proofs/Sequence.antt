@@ -1,69 +1,29 @@
 -- The laws of sequence: a function that calls others does what their steps do, one after the other
-use mathlib.Core.Path.{◌≡◌, refl, ap, ◌∙◌}
-use mathlib.Core.List.{List}
+use mathlib.Core.Path.{◌≡◌, refl}
 use Prim.Native.Nat.{ℕ}
-use lib.ListN.{length}
-use Rattle.lists.specs.Rows.{wrote, wrote-append, length-wrote}
-use Rattle.lists.specs.Steps.{Built, Did, Told, Does, ◌▸◌, gives}
+use Rattle.lists.specs.Rows.{wrote, wrote-append}
+use Rattle.lists.specs.Steps.{Built, Does, ◌▸◌, gives}
 use Rattle.lists.specs.declared.State.{State}
+use Rattle.lists.specs.declared.LiftCtx.{LiftCtx}
 
--- Over the nodes, over the statements, and over both
-module _ {b : Built} {s t : State} {v w : ℕ} {l l' l'' : List ℕ} where
-  pub then : (g : State → ℕ → Built) → Did b s v l l' → Did (g s v) t w l' l'' → Did (b ▸ g) t w l l''
+module _ {b : Built} {l l' l'' : LiftCtx} {v w : ℕ} where
+  pub then : (g : State → ℕ → Built) → Does b l l' v → Does (g l'.state v) l' l'' w → Does (b ▸ g) l l'' w
   unfolding ◌▸◌
   then g p q =
-      let h : g s v ≡ g b.st b.val = cc in
-      record { state = cc; number = cc; list = simp wrote-append (cc); quiet = cc }
+      let h : g l'.state v ≡ g b.st b.val = cc in
+      record { state = cc; number = cc; list = simp wrote-append (cc); said = simp wrote-append (cc); same-nodes = cc; same-statements = cc }
 
-  pub tell : (g : State → ℕ → Built) → Told b s v l l' → Told (g s v) t w l' l'' → Told (b ▸ g) t w l l''
-  unfolding ◌▸◌
-  tell g p q =
-      let h : g s v ≡ g b.st b.val = cc in
-      record { state = cc; number = cc; list = simp wrote-append (cc); quiet = cc }
+-- What a step adds to the lists does not depend on the state that they had
+pub over : {b : Built} {l l' : LiftCtx} {s : State} {v : ℕ} → Does b (record l { state = s }) l' v → Does b l l' v
+over p = record { state = p.state; number = p.number; list = p.list; said = p.said; same-nodes = p.same-nodes; same-statements = p.same-statements }
 
-module _ {b : Built} {s t : State} {v w : ℕ} {l l' l'' m m' m'' : List ℕ} where
-  pub both : (g : State → ℕ → Built) → Does b s v l l' m m' → Does (g s v) t w l' l'' m' m'' → Does (b ▸ g) t w l l'' m m''
-  unfolding ◌▸◌
-  both g p q =
-      let h : g s v ≡ g b.st b.val = cc in
-      record { state = cc; number = cc; list = simp wrote-append (cc); said = simp wrote-append (cc) }
-
--- A function that is lent both may call one that is lent either
-module _ {b : Built} {s : State} {v : ℕ} {l l' m : List ℕ} where
-  pub nodes : Did b s v l l' → Does b s v l l' m m
-  unfolding wrote
-  nodes p = record { state = p.state; number = p.number; list = p.list; said = rw p.quiet }
-
-  pub statements : Told b s v l l' → Does b s v m m l l'
-  unfolding wrote
-  statements p = record { state = p.state; number = p.number; list = rw p.quiet; said = p.list }
-
--- The last step, where nothing is written any more
-module _ {s t : State} {v w : ℕ} {l : List ℕ} where
-  pub same : s ≡ t → v ≡ w → Did (gives t w) s v l l
+-- The last step, where only the state becomes another one
+module _ {l : LiftCtx} {s t : State} {v w : ℕ} where
+  pub last : s ≡ t → v ≡ w → Does (gives t w) l (record l { state = s }) v
   unfolding gives wrote
-  same p q = record { state = p; number = q; list = refl; quiet = refl }
+  last p q = record { state = p; number = q; list = refl; said = refl; same-nodes = refl; same-statements = refl }
 
-  pub hush : s ≡ t → v ≡ w → Told (gives t w) s v l l
-  unfolding gives wrote
-  hush p q = record { state = p; number = q; list = refl; quiet = refl }
-
-module _ {s t : State} {v w : ℕ} {l m : List ℕ} where
-  pub still : s ≡ t → v ≡ w → Does (gives t w) s v l l m m
-  unfolding gives wrote
-  still p q = record { state = p; number = q; list = refl; said = refl }
-
--- No list's length changes
-module _ {b : Built} {s : State} {v : ℕ} {l l' : List ℕ} where
-  pub long : Did b s v l l' → length l' ≡ length l
-  long p = ap length p.list ∙ length-wrote l b.ns
-
-  pub long-told : Told b s v l l' → length l' ≡ length l
-  long-told p = ap length p.list ∙ length-wrote l b.ss
-
-module _ {b : Built} {s : State} {v : ℕ} {l l' m m' : List ℕ} where
-  pub long-nodes : Does b s v l l' m m' → length l' ≡ length l
-  long-nodes p = ap length p.list ∙ length-wrote l b.ns
-
-  pub long-statements : Does b s v l l' m m' → length m' ≡ length m
-  long-statements p = ap length p.said ∙ length-wrote m b.ss
+-- .. or nothing is done
+pub still : {l : LiftCtx} {v w : ℕ} → v ≡ w → Does (gives l.state w) l l v
+unfolding gives wrote
+still q = record { state = refl; number = q; list = refl; said = refl; same-nodes = refl; same-statements = refl }

@@ -1,8 +1,10 @@
 -- The stack of the Rust's X87Stack, with place 0 on top
-use Rattle.std.specs.Prelude.{Bool, cond, List, [], ◌∷◌, ℕ, zero, suc, ◌+◌, ◌-◌, get_or, set, leb, ltb}
+use Rattle.std.specs.Prelude.{Bool, cond, List, [], ◌∷◌, ℕ, zero, suc, ◌+◌, ◌-◌, get_or, set, leb, ltb, Result, Ok, Err}
 use Rattle.lists.specs.Steps.{Built, ◌▸◌, gives}
 use Rattle.lists.specs.Nodes.{fresh_of}
 use Rattle.lists.specs.declared.State.{State}
+use Rattle.lists.specs.declared.X87Error.{X87Error}
+use Rattle.lists.specs.declared.X87Error.TheVariants.{StackOverflow}
 
 -- The state with other places: the eight slot numbers, and the depth
 abbrev pub placing : State → List ℕ → ℕ → State
@@ -53,6 +55,10 @@ write_of s i v = ensure_of s i ▸ λ s _. gives (kept s i v) 0
 -- Whether a push finds all eight places used
 unfoldable pub overflows : State → Bool
 overflows s = leb 8 s.depth
+
+-- .. and what it answers
+abbrev pub pushed_of : State → Result Unit X87Error
+pushed_of s = cond (overflows s) (Err StackOverflow) (Ok tt)
 
 -- v on top, and each place one further down; a push at depth 8 clears the stack
 unfoldable pub push_of : State → ℕ → State

@@ -2,6 +2,7 @@
 use Rattle.std.specs.Prelude.{◌≡◌, List, [], ◌++◌, ℕ}
 use Rattle.lists.specs.Rows.{Row, wrote}
 use Rattle.lists.specs.declared.State.{State}
+use Rattle.lists.specs.declared.LiftCtx.{LiftCtx}
 
 -- What a step gives: the next state, the number that it answers, and the rows that it adds to the nodes and to the statements
 pub record Built : Type 0 where
@@ -19,23 +20,11 @@ b ▸ g = let r = g b.st b.val in record { st = r.st; val = r.val; ns = b.ns ++ 
 unfoldable pub gives : State → ℕ → Built
 gives s v = record { st = s; val = v; ns = []; ss = [] }
 
--- What a function that is lent the nodes promises of its step
-pub record Did (b : Built) (st : State) (val : ℕ) (old new : List ℕ) : Type 0 where
-  pub state : st ≡ b.st
+-- What a function promises of its step: what the lift works on before and after it, and the number that it answers. The lists are still those that were lent
+pub record Does (b : Built) (old new : LiftCtx) (val : ℕ) : Type 0 where
+  pub state : new.state ≡ b.st
   pub number : val ≡ b.val
-  pub list : new ≡ wrote old b.ns
-  pub quiet : b.ss ≡ []
-
--- .. one that is lent the statements
-pub record Told (b : Built) (st : State) (val : ℕ) (old new : List ℕ) : Type 0 where
-  pub state : st ≡ b.st
-  pub number : val ≡ b.val
-  pub list : new ≡ wrote old b.ss
-  pub quiet : b.ns ≡ []
-
--- .. and one that is lent both
-pub record Does (b : Built) (st : State) (val : ℕ) (old new old' new' : List ℕ) : Type 0 where
-  pub state : st ≡ b.st
-  pub number : val ≡ b.val
-  pub list : new ≡ wrote old b.ns
-  pub said : new' ≡ wrote old' b.ss
+  pub list : new.nodes.now ≡ wrote old.nodes.now b.ns
+  pub said : new.statements.now ≡ wrote old.statements.now b.ss
+  pub same-nodes : new.nodes.ghost_name ≡ old.nodes.ghost_name
+  pub same-statements : new.statements.ghost_name ≡ old.statements.ghost_name

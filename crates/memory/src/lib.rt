@@ -2,12 +2,12 @@
 #![tactic(auto)]
 
 ghost use Rattle.std.specs.Prelude.{◌≡◌};
-ghost use Rattle.lists.specs.Steps.{Did, Told, Does};
+ghost use Rattle.lists.specs.Steps.{Does};
 ghost use Rattle.memory.specs.Site.{site_of};
 ghost use Rattle.memory.specs.Memory.{variable_of, read_operand_lowered_of, image_read_of, converted_of, x87_memory_read_of, source_of, write_dst_of, top_of, x87_store_memory_of, x87_store_status_of};
 
 use forms::{ArithSrc, Instruction, MemFormat, RoundingMode};
-use lists::{State, Step};
+use lists::{LiftCtx, SLOT_BITS, STATUS_BITS};
 
 // What a lift looks at in an instruction beyond its form: its address, the address and slot numbers of its first operand, and
 // whether that operand is a register.
@@ -19,163 +19,110 @@ pub struct Site {
     pub register: bool,
 }
 
-// The state after an instruction, and the answer's number.
-#[derive(Clone, Copy)]
-pub struct Done {
-    pub state: State,
-    pub answer: u32,
-}
-
-pub fn site_of(insn: Instruction) -> Site
-    ensures { result ≡ site_of insn }
-{
-    let operands = insn.operands;
-    let first = operands[0];
-    Site {
-        address: insn.address,
-        memory: first.address,
-        slot: first.slot,
-        register: first.kind == 0,
+impl Site {
+    pub fn of(insn: &Instruction) -> Site
+        ensures { result ≡ site_of insn.now }
+    {
+        let first = &insn.operands[0];
+        Site {
+            address: insn.address,
+            memory: first.address,
+            slot: first.slot,
+            register: first.kind == 0,
+        }
     }
 }
 
 // The variable that a load sets: the named slot, or without a slot number the next temporary.
-fn variable(nodes: &mut [u64], s: State, slot: u32, bits: u32) -> Step
-    ensures { Did (variable_of s slot bits) result.state result.at nodes.old nodes.new }
+fn variable(ctx: &mut LiftCtx, slot: u32, bits: u32) -> u32
+    ensures { Does (variable_of ctx.old.state slot bits) ctx.old ctx.new result }
 {
     if slot == 0 {
-        return lists::temporary(nodes, s, bits);
+        return ctx.temporary(bits);
     }
-    exprs::slot_var(nodes, s, slot, bits)
+    exprs::slot_var(ctx, slot, bits)
 }
 
 // A load.
-fn read_operand_lowered(
-    nodes: &mut [u64],
-    statements: &mut [u64],
-    s: State,
-    site: Site,
-    bits: u32,
-) -> Step
-    ensures { Does (read_operand_lowered_of s site bits) result.state result.at nodes.old nodes.new statements.old statements.new }
+fn read_operand_lowered(ctx: &mut LiftCtx, site: Site, bits: u32) -> u32
+    ensures { Does (read_operand_lowered_of ctx.old.state site bits) ctx.old ctx.new result }
 {
-    let v = variable(nodes, s, site.slot, bits);
-    let t = lists::statement(
-        statements,
-        v.state,
-        1,
-        v.at as u64,
-        site.memory as u64,
-        bits as u64,
-    );
-    Step { state: t, at: v.at }
+    let v = variable(ctx, site.slot, bits);
+    ctx.statement(1, v as u64, site.memory as u64, bits as u64);
+    v
 }
 
 // An 80-bit image takes a free input for the images that have no number.
-fn image_read(nodes: &mut [u64], s: State, raw: u32) -> Step
-    ensures { Did (image_read_of s raw) result.state result.at nodes.old nodes.new }
+fn image_read(ctx: &mut LiftCtx, raw: u32) -> u32
+    ensures { Does (image_read_of ctx.old.state raw) ctx.old ctx.new result }
 {
-    let free = lists::fresh_input(nodes, s);
-    exprs::extended_from_memory(nodes, free.state, raw, free.at)
+    let free = ctx.fresh(SLOT_BITS);
+    exprs::extended_from_memory(ctx, raw, free)
 }
 
 // What was loaded, as a slot's pattern.
-fn converted(nodes: &mut [u64], s: State, raw: u32, width: u32, format: MemFormat) -> Step
-    ensures { Did (converted_of s raw width format) result.state result.at nodes.old nodes.new }
+fn converted(ctx: &mut LiftCtx, raw: u32, width: u32, format: MemFormat) -> u32
+    ensures { Does (converted_of ctx.old.state raw width format) ctx.old ctx.new result }
 {
     if exprs::is_image(width, format) {
-        return image_read(nodes, s, raw);
+        return image_read(ctx, raw);
     }
-    exprs::to_slot(nodes, s, raw, width, format)
+    exprs::to_slot(ctx, raw, width, format)
 }
 
-pub fn x87_memory_read(
-    nodes: &mut [u64],
-    statements: &mut [u64],
-    s: State,
-    site: Site,
-    width: u16,
-    format: MemFormat,
-) -> Step
-    ensures { Does (x87_memory_read_of s site width format) result.state result.at nodes.old nodes.new statements.old statements.new }
+pub fn x87_memory_read(ctx: &mut LiftCtx, site: Site, width: u16, format: MemFormat) -> u32
+    ensures { Does (x87_memory_read_of ctx.old.state site width format) ctx.old ctx.new result }
 {
-    let raw = read_operand_lowered(nodes, statements, s, site, width as u32);
-    converted(nodes, raw.state, raw.at, width as u32, format)
+    let raw = read_operand_lowered(ctx, site, width as u32);
+    converted(ctx, raw, width as u32, format)
 }
 
 // The second input of an arithmetic instruction or of a compare.
-pub fn source(
-    nodes: &mut [u64],
-    statements: &mut [u64],
-    s: State,
-    site: Site,
-    src: ArithSrc,
-) -> Step
-    ensures { Does (source_of s site src) result.state result.at nodes.old nodes.new statements.old statements.new }
+pub fn source(ctx: &mut LiftCtx, site: Site, src: ArithSrc) -> u32
+    ensures { Does (source_of ctx.old.state site src) ctx.old ctx.new result }
 {
     match src {
-        ArithSrc::Slot(index) => lists::read(nodes, s, index),
-        ArithSrc::Memory { width, format } => x87_memory_read(
-            nodes, statements, s, site, width, format,
-        ),
+        ArithSrc::Slot(index) => ctx.read(index),
+        ArithSrc::Memory { width, format } => x87_memory_read(ctx, site, width, format),
     }
 }
 
 // A value into the first operand, `ax` or memory.
-fn write_dst(statements: &mut [u64], s: State, site: Site, value: u32, bits: u32) -> State
-    ensures { Told (write_dst_of s site value bits) result 0 statements.old statements.new }
+fn write_dst(ctx: &mut LiftCtx, site: Site, value: u32, bits: u32)
+    ensures { Does (write_dst_of ctx.old.state site value bits) ctx.old ctx.new 0 }
 {
     if site.register {
-        return lists::statement(statements, s, 5, value as u64, 0, 0);
+        ctx.statement(5, value as u64, 0, 0);
+    } else {
+        ctx.statement(2, site.memory as u64, value as u64, bits as u64);
     }
-    lists::statement(
-        statements,
-        s,
-        2,
-        site.memory as u64,
-        value as u64,
-        bits as u64,
-    )
 }
 
 // The top, popped or read.
-fn top(nodes: &mut [u64], s: State, pop: bool) -> Step
-    ensures { Did (top_of s pop) result.state result.at nodes.old nodes.new }
+fn top(ctx: &mut LiftCtx, pop: bool) -> u32
+    ensures { Does (top_of ctx.old.state pop) ctx.old ctx.new result }
 {
-    if pop {
-        return lists::pop(nodes, s);
-    }
-    lists::read(nodes, s, 0)
+    if pop { ctx.pop() } else { ctx.read(0) }
 }
 
 pub fn x87_store_memory(
-    nodes: &mut [u64],
-    statements: &mut [u64],
-    s: State,
+    ctx: &mut LiftCtx,
     site: Site,
     width: u16,
     format: MemFormat,
     pop: bool,
     rounding: RoundingMode,
-) -> Done
-    ensures { Does (x87_store_memory_of s site width format pop rounding) result.state result.answer nodes.old nodes.new statements.old statements.new }
+)
+    ensures { Does (x87_store_memory_of ctx.old.state site width format pop rounding) ctx.old ctx.new 0 }
 {
-    let value = top(nodes, s, pop);
-    let stored = exprs::from_slot(nodes, value.state, value.at, width as u32, format, rounding);
-    let t = write_dst(statements, stored.state, site, stored.at, width as u32);
-    Done {
-        state: t,
-        answer: 0,
-    }
+    let value = top(ctx, pop);
+    let stored = exprs::from_slot(ctx, value, width as u32, format, rounding);
+    write_dst(ctx, site, stored, width as u32);
 }
 
-pub fn x87_store_status(nodes: &mut [u64], statements: &mut [u64], s: State, site: Site) -> Done
-    ensures { Does (x87_store_status_of s site) result.state result.answer nodes.old nodes.new statements.old statements.new }
+pub fn x87_store_status(ctx: &mut LiftCtx, site: Site)
+    ensures { Does (x87_store_status_of ctx.old.state site) ctx.old ctx.new 0 }
 {
-    let status = exprs::fsw(nodes, s);
-    let t = write_dst(statements, status.state, site, status.at, 16);
-    Done {
-        state: t,
-        answer: 0,
-    }
+    let status = exprs::fsw(ctx);
+    write_dst(ctx, site, status, STATUS_BITS);
 }

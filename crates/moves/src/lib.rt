@@ -1,251 +1,187 @@
 // What each form does to the stack and the lists: arithmetic, compares, moves, pushes, and the decline.
-// A function is lent the nodes, the statements, or both, and adds to them; it promises every word, the state and the answer.
 #![tactic(auto)]
 
-ghost use Rattle.std.specs.Prelude.{◌≡◌, ◌+◌};
-ghost use Rattle.lists.specs.Steps.{Did, Told, Does};
-ghost use Rattle.lists.specs.Stack.{exchange_of};
+ghost use Rattle.std.specs.Prelude.{◌≡◌};
+ghost use Rattle.lists.specs.Steps.{Does};
 ghost use Rattle.moves.specs.Moves.{dropped_times, dropped_if, ordered_of, x87_arith_of, x87_compare_status_of, set_flag_of, x87_compare_flags_of, x87_conditional_move_of, x87_unary_of, store_slot_of};
-ghost use Rattle.moves.specs.Pushes.{decline_x87_of, land_of, push_const_of, push_slot_of, push_memory_of};
+ghost use Rattle.moves.specs.Pushes.{decline_x87_of, land_of, push_const_of, push_slot_of, push_memory_of, pushed_number};
 
 use forms::{ArithSrc, MemFormat, UnaryOp, X87Arith, X87Condition};
-use lists::{State, Step};
-use memory::{Done, Site};
+use lists::{LiftCtx, SLOT_BITS, State, X87Error};
+use memory::Site;
 
-fn drop_times(s: State, pops: u8) -> State
-    ensures { result ≡ dropped_times pops s }
+// The flags by name.
+const CF: u64 = 0;
+
+const PF: u64 = 1;
+
+const ZF: u64 = 2;
+
+const OF: u64 = 3;
+
+const SF: u64 = 4;
+
+fn drop_times(s: &mut State, pops: u8)
+    ensures { s.new ≡ dropped_times pops s.old }
 {
-    let mut t = s;
-    let mut i = 0;
-    while i < pops {
-        t = lists::drop_top(t);
-        i += 1;
+    for _ in 0..pops {
+        s.drop_top();
     }
-    t
 }
 
-fn drop_if(s: State, pop: bool) -> State
-    ensures { result ≡ dropped_if pop s }
+fn drop_if(s: &mut State, pop: bool)
+    ensures { s.new ≡ dropped_if pop s.old }
 {
     if pop {
-        return lists::drop_top(s);
+        s.drop_top();
     }
-    s
 }
 
 // The operation on both inputs; `reversed` puts the second first.
-fn ordered(nodes: &mut [u64], s: State, op: X87Arith, a: u32, b: u32, reversed: bool) -> Step
-    ensures { Did (ordered_of s op a b reversed) result.state result.at nodes.old nodes.new }
+fn ordered(ctx: &mut LiftCtx, op: X87Arith, a: u32, b: u32, reversed: bool) -> u32
+    ensures { Does (ordered_of ctx.old.state op a b reversed) ctx.old ctx.new result }
 {
     if reversed {
-        return exprs::extended_arith(nodes, s, op, b, a);
+        exprs::extended_arith(ctx, op, b, a)
+    } else {
+        exprs::extended_arith(ctx, op, a, b)
     }
-    exprs::extended_arith(nodes, s, op, a, b)
 }
 
 pub fn x87_arith(
-    nodes: &mut [u64],
-    statements: &mut [u64],
-    s: State,
+    ctx: &mut LiftCtx,
     site: Site,
     op: X87Arith,
     dst: u32,
     src: ArithSrc,
     reversed: bool,
     pop: bool,
-) -> Done
-    ensures { Does (x87_arith_of s site op dst src reversed pop) result.state result.answer nodes.old nodes.new statements.old statements.new }
+)
+    ensures { Does (x87_arith_of ctx.old.state site op dst src reversed pop) ctx.old ctx.new 0 }
 {
-    let a = lists::read(nodes, s, dst);
-    let b = memory::source(nodes, statements, a.state, site, src);
-    let v = ordered(nodes, b.state, op, a.at, b.at, reversed);
-    let t = lists::write(nodes, v.state, dst, v.at);
-    Done {
-        state: drop_if(t, pop),
-        answer: 0,
-    }
+    let a = ctx.read(dst);
+    let b = memory::source(ctx, site, src);
+    let v = ordered(ctx, op, a, b, reversed);
+    ctx.write(dst, v);
+    drop_if(&mut ctx.state, pop);
 }
 
 // The outcome goes into the status word's condition codes.
-pub fn x87_compare_status(
-    nodes: &mut [u64],
-    statements: &mut [u64],
-    s: State,
-    site: Site,
-    src: ArithSrc,
-    pops: u8,
-) -> Done
-    ensures { Does (x87_compare_status_of s site src pops) result.state result.answer nodes.old nodes.new statements.old statements.new }
+pub fn x87_compare_status(ctx: &mut LiftCtx, site: Site, src: ArithSrc, pops: u8)
+    ensures { Does (x87_compare_status_of ctx.old.state site src pops) ctx.old ctx.new 0 }
 {
-    let top = lists::read(nodes, s, 0);
-    let a = exprs::as_extended(nodes, top.state, top.at);
-    let other = memory::source(nodes, statements, a.state, site, src);
-    let b = exprs::as_extended(nodes, other.state, other.at);
-    let unordered = exprs::unordered(nodes, b.state, a.at, b.at);
-    let equal = exprs::feq(nodes, unordered.state, a.at, b.at);
-    let less = exprs::flt(nodes, equal.state, a.at, b.at);
-    let c0 = exprs::bool_or(nodes, less.state, unordered.at, less.at);
-    let c3 = exprs::bool_or(nodes, c0.state, unordered.at, equal.at);
-    let status = exprs::x87_status_word(nodes, c3.state, c0.at, unordered.at, c3.at);
-    let t = lists::statement(statements, status.state, 3, status.at as u64, 0, 0);
-    Done {
-        state: drop_times(t, pops),
-        answer: 0,
-    }
+    let top = ctx.read(0);
+    let a = exprs::as_extended(ctx, top);
+    let other = memory::source(ctx, site, src);
+    let b = exprs::as_extended(ctx, other);
+    let unordered = exprs::unordered(ctx, a, b);
+    let equal = exprs::feq(ctx, a, b);
+    let less = exprs::flt(ctx, a, b);
+    let c0 = exprs::bool_or(ctx, unordered, less);
+    let c3 = exprs::bool_or(ctx, unordered, equal);
+    let status = exprs::x87_status_word(ctx, c0, unordered, c3);
+    ctx.statement(3, status as u64, 0, 0);
+    drop_times(&mut ctx.state, pops);
 }
 
-// A flag: 0 CF, 1 PF, 2 ZF, 3 OF, 4 SF.
-fn set_flag(statements: &mut [u64], s: State, flag: u64, node: u32) -> State
-    ensures { Told (set_flag_of s flag node) result 0 statements.old statements.new }
+fn set_flag(ctx: &mut LiftCtx, flag: u64, node: u32)
+    ensures { Does (set_flag_of ctx.old.state flag node) ctx.old ctx.new 0 }
 {
-    lists::statement(statements, s, 4, flag, node as u64, 0)
+    ctx.statement(4, flag, node as u64, 0);
 }
 
 // The outcome goes into the flags.
-pub fn x87_compare_flags(
-    nodes: &mut [u64],
-    statements: &mut [u64],
-    s: State,
-    src: u32,
-    pop: bool,
-) -> Done
-    ensures { Does (x87_compare_flags_of s src pop) result.state result.answer nodes.old nodes.new statements.old statements.new }
+pub fn x87_compare_flags(ctx: &mut LiftCtx, src: u32, pop: bool)
+    ensures { Does (x87_compare_flags_of ctx.old.state src pop) ctx.old ctx.new 0 }
 {
-    let top = lists::read(nodes, s, 0);
-    let a = exprs::as_extended(nodes, top.state, top.at);
-    let other = lists::read(nodes, a.state, src);
-    let b = exprs::as_extended(nodes, other.state, other.at);
-    let unordered = exprs::unordered(nodes, b.state, a.at, b.at);
-    let s1 = set_flag(statements, unordered.state, 1, unordered.at);
-    let equal = exprs::feq(nodes, s1, a.at, b.at);
-    let zf = exprs::bool_or(nodes, equal.state, unordered.at, equal.at);
-    let s2 = set_flag(statements, zf.state, 2, zf.at);
-    let less = exprs::flt(nodes, s2, a.at, b.at);
-    let cf = exprs::bool_or(nodes, less.state, unordered.at, less.at);
-    let s3 = set_flag(statements, cf.state, 0, cf.at);
-    let of = exprs::konst(nodes, s3, 0, 1);
-    let s4 = set_flag(statements, of.state, 3, of.at);
-    let sf = exprs::konst(nodes, s4, 0, 1);
-    let s5 = set_flag(statements, sf.state, 4, sf.at);
-    Done {
-        state: drop_if(s5, pop),
-        answer: 0,
-    }
+    let top = ctx.read(0);
+    let a = exprs::as_extended(ctx, top);
+    let other = ctx.read(src);
+    let b = exprs::as_extended(ctx, other);
+    let unordered = exprs::unordered(ctx, a, b);
+    set_flag(ctx, PF, unordered);
+    let equal = exprs::feq(ctx, a, b);
+    let zf = exprs::bool_or(ctx, unordered, equal);
+    set_flag(ctx, ZF, zf);
+    let less = exprs::flt(ctx, a, b);
+    let cf = exprs::bool_or(ctx, unordered, less);
+    set_flag(ctx, CF, cf);
+    let of = exprs::konst(ctx, 0, 1);
+    set_flag(ctx, OF, of);
+    let sf = exprs::konst(ctx, 0, 1);
+    set_flag(ctx, SF, sf);
+    drop_if(&mut ctx.state, pop);
 }
 
 // A select between two places.
-pub fn x87_conditional_move(nodes: &mut [u64], s: State, src: u32, condition: X87Condition) -> Done
-    ensures { Did (x87_conditional_move_of s src condition) result.state result.answer nodes.old nodes.new }
+pub fn x87_conditional_move(ctx: &mut LiftCtx, src: u32, condition: X87Condition)
+    ensures { Does (x87_conditional_move_of ctx.old.state src condition) ctx.old ctx.new 0 }
 {
-    let taken = lists::read(nodes, s, src);
-    let kept = lists::read(nodes, taken.state, 0);
-    let holds = exprs::predicate(nodes, kept.state, condition);
-    let v = exprs::ite(nodes, holds.state, holds.at, taken.at, kept.at);
-    let t = lists::write(nodes, v.state, 0, v.at);
-    Done {
-        state: t,
-        answer: 0,
-    }
+    let taken = ctx.read(src);
+    let kept = ctx.read(0);
+    let holds = exprs::predicate(ctx, condition);
+    let v = exprs::ite(ctx, holds, taken, kept);
+    ctx.write(0, v);
 }
 
-pub fn x87_unary(nodes: &mut [u64], s: State, op: UnaryOp) -> Done
-    ensures { Did (x87_unary_of s op) result.state result.answer nodes.old nodes.new }
+pub fn x87_unary(ctx: &mut LiftCtx, op: UnaryOp)
+    ensures { Does (x87_unary_of ctx.old.state op) ctx.old ctx.new 0 }
 {
-    let top = lists::read(nodes, s, 0);
-    let v = exprs::unary(nodes, top.state, op, top.at);
-    let t = lists::write(nodes, v.state, 0, v.at);
-    Done {
-        state: t,
-        answer: 0,
-    }
+    let top = ctx.read(0);
+    let v = exprs::unary(ctx, op, top);
+    ctx.write(0, v);
 }
 
 // The top into another place.
-pub fn store_slot(nodes: &mut [u64], s: State, index: u32, pop: bool) -> Done
-    ensures { Did (store_slot_of s index pop) result.state result.answer nodes.old nodes.new }
+pub fn store_slot(ctx: &mut LiftCtx, index: u32, pop: bool)
+    ensures { Does (store_slot_of ctx.old.state index pop) ctx.old ctx.new 0 }
 {
-    let value = lists::read(nodes, s, 0);
-    let t = lists::write(nodes, value.state, index, value.at);
-    Done {
-        state: drop_if(t, pop),
-        answer: 0,
-    }
-}
-
-pub fn exchange(nodes: &mut [u64], s: State, index: u32) -> Done
-    ensures { Did (exchange_of s index) result.state result.answer nodes.old nodes.new }
-{
-    let t = lists::exchange(nodes, s, index);
-    Done {
-        state: t,
-        answer: 0,
-    }
+    let value = ctx.read(0);
+    ctx.write(index, value);
+    drop_if(&mut ctx.state, pop);
 }
 
 // A decline forgets the stack and says why, 1 or 2, where, and with which detail.
-pub fn decline_x87(statements: &mut [u64], s: State, why: u32, address: u64, detail: u32) -> Done
-    ensures { Told (decline_x87_of s why address detail) result.state result.answer statements.old statements.new }
+pub fn decline_x87(ctx: &mut LiftCtx, why: u32, address: u64, detail: u32)
+    ensures { Does (decline_x87_of ctx.old.state why address detail) ctx.old ctx.new why }
 {
-    let t = lists::havoc(s);
-    let u = lists::statement(statements, t, 6, why as u64, address, detail as u64);
-    Done {
-        state: u,
-        answer: why,
-    }
+    ctx.state.havoc();
+    ctx.statement(6, why as u64, address, detail as u64);
 }
 
 // A push, which declines where it overflows.
-fn land(statements: &mut [u64], s: State, value: u32, address: u64) -> Done
-    ensures { Told (land_of s value address) result.state result.answer statements.old statements.new }
+fn land(ctx: &mut LiftCtx, value: u32, address: u64) -> Result<(), X87Error>
+    ensures { Does (land_of ctx.old.state value address) ctx.old ctx.new (pushed_number result) }
 {
-    let p = lists::push(s, value);
-    let t = p.state;
-    if p.overflow {
-        return decline_x87(statements, t, 2, address, 0);
+    let pushed = ctx.state.push(value);
+    if pushed.is_err() {
+        decline_x87(ctx, 2, address, 0);
     }
-    Done {
-        state: t,
-        answer: 0,
-    }
+    pushed
 }
 
-pub fn push_const(
-    nodes: &mut [u64],
-    statements: &mut [u64],
-    s: State,
-    site: Site,
-    low: u64,
-    high: u64,
-) -> Done
-    ensures { Does (push_const_of s site low high) result.state result.answer nodes.old nodes.new statements.old statements.new }
+pub fn push_const(ctx: &mut LiftCtx, site: Site, low: u64, high: u64) -> Result<(), X87Error>
+    ensures { Does (push_const_of ctx.old.state site low high) ctx.old ctx.new (pushed_number result) }
 {
-    let value = exprs::wide_konst(nodes, s, low, high, 79);
-    land(statements, value.state, value.at, site.address)
+    let value = ctx.constant(low, high, SLOT_BITS);
+    land(ctx, value, site.address)
 }
 
-pub fn push_slot(
-    nodes: &mut [u64],
-    statements: &mut [u64],
-    s: State,
-    site: Site,
-    index: u32,
-) -> Done
-    ensures { Does (push_slot_of s site index) result.state result.answer nodes.old nodes.new statements.old statements.new }
+pub fn push_slot(ctx: &mut LiftCtx, site: Site, index: u32) -> Result<(), X87Error>
+    ensures { Does (push_slot_of ctx.old.state site index) ctx.old ctx.new (pushed_number result) }
 {
-    let value = lists::read(nodes, s, index);
-    land(statements, value.state, value.at, site.address)
+    let value = ctx.read(index);
+    land(ctx, value, site.address)
 }
 
 pub fn push_memory(
-    nodes: &mut [u64],
-    statements: &mut [u64],
-    s: State,
+    ctx: &mut LiftCtx,
     site: Site,
     width: u16,
     format: MemFormat,
-) -> Done
-    ensures { Does (push_memory_of s site width format) result.state result.answer nodes.old nodes.new statements.old statements.new }
+) -> Result<(), X87Error>
+    ensures { Does (push_memory_of ctx.old.state site width format) ctx.old ctx.new (pushed_number result) }
 {
-    let loaded = memory::x87_memory_read(nodes, statements, s, site, width, format);
-    land(statements, loaded.state, loaded.at, site.address)
+    let value = memory::x87_memory_read(ctx, site, width, format);
+    land(ctx, value, site.address)
 }

@@ -7,5 +7,5 @@ unfolding extended_arith_of
 returns c =
     then _ c.as_extended-a.ensures
     (then _ c.as_extended-b.ensures
-    (then _ (rw c.arith_kind.ensures at c.fp_arith-x.ensures)
+    (then _ (rw c.arith_kind.ensures at c.node-x.ensures)
     c.from_extended.ensures))

@@ -10,6 +10,6 @@ pub returns-then-width-eq64 : goal.returns-then-width-eq64
 unfolding format_of
 returns-then-width-eq64 c = rw (ne_eqb _ _ c.if-width-eq32.false, eq-eqb _ _ c.if-width-eq64.true)
 
-pub returns : goal.returns
+pub returns-else-width-eq64 : goal.returns-else-width-eq64
 unfolding format_of
-returns c = rw (ne_eqb _ _ c.if-width-eq32.false, ne_eqb _ _ c.if-width-eq64.false)
+returns-else-width-eq64 c = rw (ne_eqb _ _ c.if-width-eq32.false, ne_eqb _ _ c.if-width-eq64.false)

@@ -5,7 +5,7 @@ use Rattle.exprs.proofs.x87_status_word.Goals as goal
 pub returns : goal.returns
 unfolding x87_status_word_of
 returns c =
-    then _ c.fresh_status-free.ensures
+    then _ c.fresh-free.ensures
     (then _ c.extract-busy.ensures
     (then _ c.extract-top.ensures
     (then _ c.konst-c1.ensures

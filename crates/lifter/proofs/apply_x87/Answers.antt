@@ -1,5 +1,4 @@
 use Rattle.lifter.specs.Apply.{apply_x87_of}
-use Rattle.lists.proofs.Sequence.{nodes}
 use Rattle.lifter.proofs.apply_x87.Goals as goal
 
 pub returns-in-PushConst : goal.returns-in-PushConst
@@ -20,7 +19,7 @@ returns-in-StoreMemory c = rw c.in-StoreMemory.is c.x87_store_memory.ensures
 
 pub returns-in-StoreSlot : goal.returns-in-StoreSlot
 unfolding apply_x87_of
-returns-in-StoreSlot c = rw c.in-StoreSlot.is (nodes c.store_slot.ensures)
+returns-in-StoreSlot c = rw c.in-StoreSlot.is c.store_slot.ensures
 
 pub returns-in-Arith : goal.returns-in-Arith
 unfolding apply_x87_of
@@ -36,7 +35,7 @@ returns-in-CompareFlags c = rw c.in-CompareFlags.is c.x87_compare_flags.ensures
 
 pub returns-in-ConditionalMove : goal.returns-in-ConditionalMove
 unfolding apply_x87_of
-returns-in-ConditionalMove c = rw c.in-ConditionalMove.is (nodes c.x87_conditional_move.ensures)
+returns-in-ConditionalMove c = rw c.in-ConditionalMove.is c.x87_conditional_move.ensures
 
 pub returns-in-StoreStatus : goal.returns-in-StoreStatus
 unfolding apply_x87_of
@@ -44,8 +43,8 @@ returns-in-StoreStatus c = rw c.in-StoreStatus.is c.x87_store_status.ensures
 
 pub returns-in-Exchange : goal.returns-in-Exchange
 unfolding apply_x87_of
-returns-in-Exchange c = rw c.in-Exchange.is (nodes c.exchange.ensures)
+returns-in-Exchange c = rw c.in-Exchange.is c.exchange.ensures
 
 pub returns-in-Unary : goal.returns-in-Unary
 unfolding apply_x87_of
-returns-in-Unary c = rw c.in-Unary.is (nodes c.x87_unary.ensures)
+returns-in-Unary c = rw c.in-Unary.is c.x87_unary.ensures

@@ -6,28 +6,31 @@ use Rattle.lists.specs.Rows.{room_of}
 use Rattle.lists.specs.declared.State.{State}
 use Rattle.lifter.proofs.fit_tight.Goals as goal
 
-pub returns-then-room-d : goal.returns-then-room-d
-returns-then-room-d c =
+pub returns-then-room-trial : goal.returns-then-room-trial
+returns-then-room-trial c =
     let a = c.args in
-    let b = lowered_of a.s a.classified a.detail a.site in
-    let n = ap (λ (x : State). x.nodes) c.lower.ensures.state in
-    rw (no-nodes b a.s a.nodes.now a.statements.now (omega (arith, n, c.room.ensures, c.if-room-d.true))) (still refl refl)
+    let l = a.ctx.now in
+    let b = lowered_of l.state a.classified a.detail a.site in
+    let n = ap (λ (x : State). x.nodes) c.lower.ensures.does.state in
+    rw (no-nodes b l.state l.nodes.now l.statements.now (omega (arith, n, c.room.ensures, c.if-room-trial.true))) (record { does = still refl; detail-is = refl })
 
-pub returns-then-room-d-2 : goal.returns-then-room-d-2
-returns-then-room-d-2 c =
+pub returns-then-room-trial-2 : goal.returns-then-room-trial-2
+returns-then-room-trial-2 c =
     let a = c.args in
-    let b = lowered_of a.s a.classified a.detail a.site in
-    let n = ap (λ (x : State). x.nodes) c.lower.ensures.state in
-    let k = ap (λ (x : State). x.statements) c.lower.ensures.state in
-    let h : b.st.nodes ≤ room_of (length a.nodes.now) = omega (arith, n, c.room.ensures, c.if-room-d.false) in
-    rw (no-statements b a.s a.nodes.now a.statements.now h (omega (arith, k, c.room-2.ensures, c.if-room-d-2.true))) (still refl refl)
+    let l = a.ctx.now in
+    let b = lowered_of l.state a.classified a.detail a.site in
+    let n = ap (λ (x : State). x.nodes) c.lower.ensures.does.state in
+    let k = ap (λ (x : State). x.statements) c.lower.ensures.does.state in
+    let h : b.st.nodes ≤ room_of (length l.nodes.now) = omega (arith, n, c.room.ensures, c.if-room-trial.false) in
+    rw (no-statements b l.state l.nodes.now l.statements.now h (omega (arith, k, c.room-2.ensures, c.if-room-trial-2.true))) (record { does = still refl; detail-is = refl })
 
 pub returns : goal.returns
 returns c =
     let a = c.args in
-    let b = lowered_of a.s a.classified a.detail a.site in
-    let n = ap (λ (x : State). x.nodes) c.lower.ensures.state in
-    let k = ap (λ (x : State). x.statements) c.lower.ensures.state in
-    let h : b.st.nodes ≤ room_of (length a.nodes.now) = omega (arith, n, c.room.ensures, c.if-room-d.false) in
-    let i : b.st.statements ≤ room_of (length a.statements.now) = omega (arith, k, c.room-2.ensures, c.if-room-d-2.false) in
-    rw (all-fits b a.s a.nodes.now a.statements.now h i) c.lower-2.ensures
+    let l = a.ctx.now in
+    let b = lowered_of l.state a.classified a.detail a.site in
+    let n = ap (λ (x : State). x.nodes) c.lower.ensures.does.state in
+    let k = ap (λ (x : State). x.statements) c.lower.ensures.does.state in
+    let h : b.st.nodes ≤ room_of (length l.nodes.now) = omega (arith, n, c.room.ensures, c.if-room-trial.false) in
+    let i : b.st.statements ≤ room_of (length l.statements.now) = omega (arith, k, c.room-2.ensures, c.if-room-trial-2.false) in
+    rw (all-fits b l.state l.nodes.now l.statements.now h i) c.lower-2.ensures

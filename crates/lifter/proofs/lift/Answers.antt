@@ -5,5 +5,4 @@ use Rattle.lifter.proofs.lift.Goals as goal
 
 pub returns : goal.returns
 unfolding detail_for
-returns c =
-    lifted _ _ _ _ _ _ _ c.classify-classified.ensures (c.number-detail.ensures ∙ ap detail_number c.detail.ensures) c.site_of-site.ensures c.lift_classified-done.ensures c.beside.ensures
+returns c = lifted _ _ _ _ _ _ _ c.classify-classified.ensures (c.number-detail.ensures ∙ ap detail_number c.detail.ensures) c.of.ensures c.lift_classified.ensures

@@ -4,5 +4,5 @@ use Rattle.lifter.proofs.lift_classified.Goals as goal
 
 pub returns : goal.returns
 returns c =
-    let v = sym (rw (c.room.ensures, c.room-2.ensures) at c.valid.ensures) ∙ c.if-valid.false in
-    rw v (still refl refl)
+    let v = sym (rw (c.room-nodes.ensures, c.room-statements.ensures) at c.valid.ensures) ∙ c.if-valid.false in
+    rw v (record { does = still refl; detail-is = refl })

@@ -5,4 +5,4 @@ use Rattle.memory.proofs.image_read.Goals as goal
 pub returns : goal.returns
 unfolding image_read_of
 returns c =
-    then _ c.fresh_input-free.ensures c.extended_from_memory.ensures
+    then _ c.fresh-free.ensures c.extended_from_memory.ensures

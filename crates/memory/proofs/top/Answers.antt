@@ -5,6 +5,6 @@ pub returns-then-pop : goal.returns-then-pop
 unfolding top_of
 returns-then-pop c = rw c.if-pop.true c.pop.ensures
 
-pub returns : goal.returns
+pub returns-else-pop : goal.returns-else-pop
 unfolding top_of
-returns c = rw c.if-pop.false c.read.ensures
+returns-else-pop c = rw c.if-pop.false c.read.ensures

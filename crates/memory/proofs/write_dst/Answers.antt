@@ -5,6 +5,6 @@ pub returns-then-site : goal.returns-then-site
 unfolding write_dst_of
 returns-then-site c = rw c.if-site.true c.statement.ensures
 
-pub returns : goal.returns
+pub returns-else-site : goal.returns-else-site
 unfolding write_dst_of
-returns c = rw c.if-site.false c.statement-2.ensures
+returns-else-site c = rw c.if-site.false c.statement-else-site.ensures

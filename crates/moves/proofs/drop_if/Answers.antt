@@ -5,6 +5,6 @@ pub returns-then-pop : goal.returns-then-pop
 unfolding dropped_if
 returns-then-pop c = rw c.if-pop.true c.drop_top.ensures
 
-pub returns : goal.returns
+pub returns-else-pop : goal.returns-else-pop
 unfolding dropped_if
-returns c = rw c.if-pop.false
+returns-else-pop c = rw c.if-pop.false

@@ -5,6 +5,6 @@ pub returns-then-reversed : goal.returns-then-reversed
 unfolding ordered_of
 returns-then-reversed c = rw c.if-reversed.true c.extended_arith.ensures
 
-pub returns : goal.returns
+pub returns-else-reversed : goal.returns-else-reversed
 unfolding ordered_of
-returns c = rw c.if-reversed.false c.extended_arith-2.ensures
+returns-else-reversed c = rw c.if-reversed.false c.extended_arith-else-reversed.ensures

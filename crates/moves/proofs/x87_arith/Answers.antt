@@ -1,13 +1,13 @@
 use Rattle.std.proofs.Common.{refl}
-use Rattle.lists.proofs.Sequence.{both, nodes, still}
+use Rattle.lists.proofs.Sequence.{then, last}
 use Rattle.moves.specs.Moves.{x87_arith_of}
 use Rattle.moves.proofs.x87_arith.Goals as goal
 
 pub returns : goal.returns
 unfolding x87_arith_of
 returns c =
-    both _ (nodes c.read-a.ensures)
-    (both _ c.source-b.ensures
-    (both _ (nodes c.ordered-v.ensures)
-    (both _ (nodes c.write-t.ensures)
-    (still c.drop_if.ensures refl))))
+    then _ c.read-a.ensures
+    (then _ c.source-b.ensures
+    (then _ c.ordered-v.ensures
+    (then _ c.write.ensures
+    (last c.drop_if.ensures refl))))

@@ -9,4 +9,4 @@ returns c =
     (then _ c.read-kept.ensures
     (then _ c.predicate-holds.ensures
     (then _ c.ite-v.ensures
-    c.write-t.ensures)))
+    c.write.ensures)))

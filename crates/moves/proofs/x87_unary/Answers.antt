@@ -7,4 +7,4 @@ unfolding x87_unary_of
 returns c =
     then _ c.read-top.ensures
     (then _ c.unary-v.ensures
-    c.write-t.ensures)
+    c.write.ensures)

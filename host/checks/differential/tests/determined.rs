@@ -6,13 +6,13 @@
 use std::fs;
 use std::path::{Path, PathBuf};
 
-/// A public call: its crate, its name, where its contract stands, and the
-/// places of its parameters that are lent for writing.
+/// A public call: its crate, its name, where its contract stands, and what is
+/// determined at exit of each parameter that is lent for writing.
 struct Call {
     krate: String,
     name: String,
     contract: String,
-    lent: Vec<usize>,
+    lent: Vec<String>,
 }
 
 fn root() -> PathBuf {
@@ -53,6 +53,23 @@ fn methods_of(line: &str) -> Option<&str> {
     of.split('<').next()
 }
 
+/// What of a parameter that is lent for writing is determined at exit: a
+/// slice's words, a state, a reader, or the lists and the state that a lift
+/// works on. `owner` is the type whose method the call is.
+fn determined(place: usize, parameter: &str, owner: Option<&str>) -> Option<String> {
+    let held = match parameter {
+        "&mut self" => owner?,
+        _ if parameter.contains(" mut [") => "[",
+        _ => parameter.split_once("&mut ")?.1,
+    };
+    let at = format!("x{}.0.now", ".1".repeat(place));
+    Some(if held.starts_with("LiftCtx") {
+        format!("at_hand {at}")
+    } else {
+        at
+    })
+}
+
 /// The public calls of one source text, whose contracts stand below `path`:
 /// its functions, and the methods of its types.
 fn public(krate: &str, path: &str, text: &str) -> Vec<Call> {
@@ -74,14 +91,13 @@ fn public(krate: &str, path: &str, text: &str) -> Vec<Call> {
         let lent = parameters(&rest[open..])
             .iter()
             .enumerate()
-            .filter(|(_, p)| p.contains("&mut ") || p.contains(" mut ["))
-            .map(|(k, _)| k)
+            .filter_map(|(k, p)| determined(k, p, within))
             .collect();
-        let of = within.map(|of| format!(".{of}")).unwrap_or_default();
+        let named = |between: &str| within.map(|of| format!("{of}{between}")).unwrap_or_default();
         out.push(Call {
             krate: krate.to_owned(),
-            name: name.to_owned(),
-            contract: format!("{path}{of}.{name}"),
+            name: format!("{}{name}", named("·")),
+            contract: format!("{path}.{}{name}", named(".")),
             lent,
         });
     }
@@ -158,7 +174,7 @@ fn expected(call: &Call) -> String {
     let name = call.name.replace('_', "-");
     let key = format!("pub {krate}·{name}");
     match (krate.as_str(), name.as_str()) {
-        ("texts", "trim" | "as-bytes") => {
+        ("texts", "trim" | "Text·as-bytes") => {
             format!("{key} : Fixes {contract}.Reads.Post (λ κ r x. r.now)")
         }
         ("writing", "fitted") => format!(
@@ -177,7 +193,7 @@ fn expected(call: &Call) -> String {
             let slices: String = call
                 .lent
                 .iter()
-                .map(|k| format!(" (λ κ x. x{}.0.now)", ".1".repeat(*k)))
+                .map(|what| format!(" (λ κ x. {what})"))
                 .collect();
             format!("{key} : Determined{which} {contract}.Reads.Post{slices}")
         }

@@ -1,7 +1,0 @@
-use Rattle.std.proofs.Common.{refl}
-use Rattle.lists.specs.Stack.{havoc_of}
-use Rattle.lists.proofs.havoc.Goals as goal
-
-pub returns : goal.returns
-unfolding havoc_of
-returns c = refl

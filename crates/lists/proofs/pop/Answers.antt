@@ -1,9 +1,0 @@
-use Rattle.std.proofs.Common.{refl}
-use Rattle.lists.proofs.Sequence.{then, same}
-use Rattle.lists.specs.Stack.{pop_of}
-use Rattle.lists.proofs.pop.Goals as goal
-
-pub returns : goal.returns
-unfolding pop_of
-returns c =
-    then _ c.read-top.ensures (same c.drop_top.ensures refl)
