@@ -2,7 +2,7 @@
 -- Every exported call that is lent words to tell goes by one rule (`Tells` in export/specs/Answers). Beside an answer other than 0 these words are 0,
 -- but a place that is named and beside a decline its detail, for whatever bytes, records and lists the call is given; a call of lift on a record that was lifted,
 -- declined or not, tells the next place and 1
-use Rattle.std.specs.Prelude.{◌≡◌, refl, Bool, true, false, cond, ◌&&◌, List, [], ◌∷◌, ℕ, eqb, leb, take, replicate}
+use Rattle.std.specs.Prelude.{◌≡◌, refl, Bool, true, false, cond, ◌&&◌, List, [], ◌∷◌, ℕ, Result, Ok, Err, eqb, leb, take, replicate}
 use Rattle.std.proofs.Common.{arith}
 use Rattle.texts.specs.Bytes.{all}
 use Rattle.forms.specs.Classify.{classify_of}
@@ -28,8 +28,8 @@ use Rattle.export.specs.Values.{wide, found_said}
 use Rattle.smtwriter.specs.Written.{written_of}
 use Rattle.smtwriter.specs.declared.Written.{Written}
 use Rattle.smtwriter.specs.declared.Written.TheVariants as written_as
-use Rattle.smtreader.specs.declared.Reading.{Reading}
-use Rattle.smtreader.specs.declared.Reading.TheVariants as reading-as
+use Rattle.smtreader.specs.declared.ReadError.{ReadError}
+use Rattle.smtreader.specs.declared.ReadError.TheVariants as not-read
 use Rattle.export.specs.Texts.{written_said, read_said}
 
 -- Beside a number other than 0, k zeros; or a place and k zeros
@@ -147,7 +147,7 @@ text-beside w n root room = way (written_of w n root room)
     way written_as.Short e = refl
 
 -- WHAT A TEXT SAYS: a count of nodes stands beside 0, a place beside 41
-pub reading-beside : (a : Reading) → (read_said a).number ≡ 6 → (read_said a).words ≡ 0 ∷ []
-reading-beside (reading-as.Rows n) e = absurd (omega arith)
-reading-beside (reading-as.Stop p) e = absurd (omega arith)
-reading-beside reading-as.Room e = refl
+pub reading-beside : (a : Result ℕ ReadError) → (read_said a).number ≡ 6 → (read_said a).words ≡ 0 ∷ []
+reading-beside (Ok n) e = absurd (omega arith)
+reading-beside (Err (not-read.Stop p)) e = absurd (omega arith)
+reading-beside (Err not-read.Room) e = refl
