@@ -27,8 +27,8 @@ use Rattle.export.specs.Values.{wide, image_said}
 use Rattle.smtwriter.specs.Written.{written_of}
 use Rattle.smtwriter.specs.declared.WriteError.{WriteError}
 use Rattle.smtwriter.specs.declared.WriteError.TheVariants as write_error
-use Rattle.smtreader.specs.declared.Reading.{Reading}
-use Rattle.smtreader.specs.declared.Reading.TheVariants as reading-as
+use Rattle.smtreader.specs.declared.ReadError.{ReadError}
+use Rattle.smtreader.specs.declared.ReadError.TheVariants as not-read
 use Rattle.export.specs.Texts.{written_said, read_said}
 
 -- Beside a number other than 0, k zeros; or a place and k zeros
@@ -146,7 +146,7 @@ text-beside w n root room = way (written_of w n root room)
     way (Err write_error.Short) e = refl
 
 -- WHAT A TEXT SAYS: a count of nodes stands beside 0, a place beside 41
-pub reading-beside : (a : Reading) → (read_said a).number ≡ 6 → (read_said a).words ≡ 0 ∷ []
-reading-beside (reading-as.Rows n) e = absurd (omega arith)
-reading-beside (reading-as.Stop p) e = absurd (omega arith)
-reading-beside reading-as.Room e = refl
+pub reading-beside : (a : Result ℕ ReadError) → (read_said a).number ≡ 6 → (read_said a).words ≡ 0 ∷ []
+reading-beside (Ok n) e = absurd (omega arith)
+reading-beside (Err (not-read.Stop p)) e = absurd (omega arith)
+reading-beside (Err not-read.Room) e = refl

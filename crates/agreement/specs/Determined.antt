@@ -40,7 +40,7 @@ use Rattle.smttext.specs.Text.{text_of}
 use Rattle.smtwriter.specs.Written.{bytes_after, Writes}
 use Rattle.smtwriter.specs.declared.WriteError.{WriteError}
 use Rattle.smtlive.specs.Apart.{choices-apart}
-use Rattle.smttokens.specs.Taken.{shown, state, one_token}
+use Rattle.smttokens.specs.Taken.{shown, one_token}
 use Rattle.smtreader.specs.Text.{one-reading}
 use Rattle.export.specs.Answers.{Said, Tells, ReadsRecord}
 use Rattle.export.specs.Lifts.{Lifted, Lifts}
@@ -618,7 +618,7 @@ smttokens·size-at κ a r s x y = one
 pub smttokens·take : Determined Rattle.smttokens.proofs.take.Reads.Post
 smttokens·take κ a r s x y p q =
     one_token _ _ _ _
-    (choices-apart (state (shown a.1.0.now a.1.1.0.now a.1.1.1.0.now a.1.1.1.1.0.now) a.1.1.1.1.1.0 a.1.1.1.1.1.1.0))
+    (choices-apart (shown a.1.0.now [] []))
     r s (p.is [] []) (q.is [] [])
 
 -- smtreader

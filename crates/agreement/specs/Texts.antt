@@ -1,5 +1,5 @@
 -- WHAT READING A TEXT MEANS: the call's promise in the words of the subset, in the place of the grammar's runs.
-use Rattle.std.specs.Prelude.{◌≡◌, refl, List, [], ◌∷◌, ◌++◌, ℕ, suc, ◌*◌, ◌^◌, ◌≤◌, ◌<◌, length, get_or, drop, Ok}
+use Rattle.std.specs.Prelude.{◌≡◌, refl, List, [], ◌∷◌, ◌++◌, ℕ, suc, ◌*◌, ◌^◌, ◌≤◌, ◌<◌, Result, Ok, Err, length, get_or, drop}
 use Rattle.std.proofs.Common.{sym, ap, ◌∙◌, arith, le-leb, get_or-set_same}
 use Rattle.lists.specs.Rows.{room_of}
 use Rattle.sorts.specs.Check.{check_of}
@@ -12,8 +12,8 @@ use Rattle.smtsubset.specs.Passes.{passes, compact-long}
 use Rattle.smtsubset.specs.Subset.{Stopped, rows_are, only-reads, stops-there, written}
 use Rattle.smtreader.specs.Counted.{counted-reads}
 use Rattle.smtreader.specs.Text as smtreader
-use Rattle.smtreader.specs.declared.Reading.{Reading}
-use Rattle.smtreader.specs.declared.Reading.TheVariants as reading
+use Rattle.smtreader.specs.declared.ReadError.{ReadError}
+use Rattle.smtreader.specs.declared.ReadError.TheVariants as not
 use Rattle.smtreader.proofs.Ranks.{rows_long}
 use Rattle.smtreader.specs.Numbers.{number_of, place_of}
 use Rattle.export.specs.Flat.{laid}
@@ -64,10 +64,10 @@ module _ (x : List ℕ) where
         rows w m n f = h.nodes ∙ rw (rows_are x w m n h.last f h.reads)
 
     -- an answer, by its number and the word beside it
-    way : (a : Reading) → smtreader.ReadsText x nodes a nodes_left → Means x nodes (number_of a) (place_of a) nodes_left
-    way (reading.Rows k) h = formula k nodes_left (rows-mean k h)
-    way (reading.Stop p) h = rw h.nodes (stopped p (stops-there x p h.stops))
-    way reading.Room h =
+    way : (a : Result ℕ ReadError) → smtreader.ReadsText x nodes a nodes_left → Means x nodes (number_of a) (place_of a) nodes_left
+    way (Ok k) h = formula k nodes_left (rows-mean k h)
+    way (Err (not.Stop p)) h = rw h.nodes (stopped p (stops-there x p h.stops))
+    way (Err not.Room) h =
         rw h.nodes
         (full (only-reads x h.last h.reads) (λ w m n s. rw (sym (counts h.last h.reads w m n s)) h.many))
 

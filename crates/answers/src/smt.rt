@@ -3,7 +3,7 @@ ghost use Rattle.std.specs.Prelude.{◌≡◌};
 ghost use Rattle.smtwriter.specs.Written as smtwriter;
 ghost use Rattle.smtreader.specs.Numbers as smtreader;
 
-use smtreader::Reading;
+use smtreader::ReadError;
 use smtwriter::WriteError;
 
 pub fn text_number(w: Result<usize, WriteError>) -> u32
@@ -28,22 +28,22 @@ pub fn text_place(w: Result<usize, WriteError>) -> usize
     }
 }
 
-pub fn reading_number(r: Reading) -> u32
+pub fn reading_number(r: Result<usize, ReadError>) -> u32
     ensures { result ≡ smtreader.number_of r }
 {
     match r {
-        Reading::Rows(_) => 0,
-        Reading::Stop(_) => 41,
-        Reading::Room => 6,
+        Ok(_) => 0,
+        Err(ReadError::Stop(_)) => 41,
+        Err(ReadError::Room) => 6,
     }
 }
 
-pub fn reading_place(r: Reading) -> usize
+pub fn reading_place(r: Result<usize, ReadError>) -> usize
     ensures { result ≡ smtreader.place_of r }
 {
     match r {
-        Reading::Rows(n) => n,
-        Reading::Stop(p) => p,
-        Reading::Room => 0,
+        Ok(n) => n,
+        Err(ReadError::Stop(p)) => p,
+        Err(ReadError::Room) => 0,
     }
 }

@@ -5,7 +5,7 @@ use Rattle.smtwriter.specs.Written as smtwriter
 use Rattle.smtwriter.specs.declared.WriteError.{WriteError}
 use Rattle.smtreader.specs.Text as smtreader
 use Rattle.smtreader.specs.Numbers as reading
-use Rattle.smtreader.specs.declared.Reading.{Reading}
+use Rattle.smtreader.specs.declared.ReadError.{ReadError}
 use Rattle.export.specs.Answers.{Said, Tells}
 use Rattle.export.specs.Flat.{at_least}
 
@@ -19,12 +19,12 @@ pub record WritesText (w : List ℕ) (n root : ℕ) (text out : List ℕ) (r : �
   pub bytes : text_left ≡ cond (at_least 1 out) (smtwriter.bytes_after (smtwriter.written_of w n root (length text)) (text_of w root) text) text
 
 -- an answer's number, and the count of nodes or the place that it names
-abbrev pub read_said : Reading → Said
+abbrev pub read_said : Result ℕ ReadError → Said
 read_said a = record { number = reading.number_of a; words = reading.place_of a ∷ [] }
 
 -- what the text says, where there is a word to tell its number in
 pub record Answers (x nodes out : List ℕ) (r : ℕ) (nodes_left out_left : List ℕ) : Type 0 where
-  pub says : Reading
+  pub says : Result ℕ ReadError
   pub read : smtreader.ReadsText x nodes says nodes_left
   pub told : Tells 1 (read_said says) out r out_left
 

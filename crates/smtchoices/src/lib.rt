@@ -3,339 +3,336 @@
 
 mod present;
 
-ghost use Rattle.std.specs.Prelude.{◌≡◌, cond, ◌&&◌, ◌||◌, ◌+◌, ◌-◌, ◌*◌, [], get_or};
+ghost use Rattle.std.specs.Prelude.{◌≡◌, get_or};
 ghost use Rattle.smtgrammar.specs.Allowed.{format_of, line_ok, declared_ok, read_ok, kind_ok, number_ok, digit_ok, pattern_ok, width_ok, defined_ok, chance_ok, sort_ok, bits_ok, float_ok, opening_ok, rare_taken, sort_taken, operand_ok, word_ok, first_ok, place_ok, defining_ok, ok_at};
-ghost use Rattle.smtgrammar.specs.Present.{below, some_float, some_word, some_from, joins, source, suits};
-ghost use Rattle.smtchoices.specs.Seen.{seen, none, no_place};
-ghost use Rattle.smtgrammar.specs.State.{no_line};
+ghost use Rattle.smtchoices.specs.Seen.{seen};
 
+use present::suits;
 use smtgrammar::{Line, Place};
+
+// The nodes so far, as columns of any lengths: kind, first field and sort by number, and by sort the lowest number that has it.
+#[derive(Clone, Copy)]
+pub struct Tables<'a> {
+    pub kinds: &'a [u8],
+    pub firsts: &'a [u64],
+    pub sorts: &'a [u16],
+    pub lowest: &'a [u16],
+}
+
+// What is known in the middle of a text: the nodes so far, what they still oblige to, and the line that is being read.
+#[derive(Clone, Copy)]
+pub struct State<'a> {
+    pub tables: Tables<'a>,
+    pub place: Place,
+    pub line: Line,
+}
 
 // The kind of node i, 0 where there is none.
 pub fn kind_at(kinds: &[u8], i: usize) -> usize
     ensures { result ≡ get_or kinds.now i 0 }
 {
-    if i < kinds.len() {
-        kinds[i] as usize
-    } else {
-        0
-    }
+    kinds.get(i).copied().unwrap_or(0) as usize
 }
 
 // The sort of node i, 0 where there is none.
 pub fn sort_at(sorts: &[u16], i: usize) -> usize
     ensures { result ≡ get_or sorts.now i 0 }
 {
-    if i < sorts.len() {
-        sorts[i] as usize
-    } else {
-        0
-    }
+    sorts.get(i).copied().unwrap_or(0) as usize
 }
 
 // The format whose patterns are w bits wide.
 pub fn format_of(w: usize) -> usize
     ensures { result ≡ format_of w }
 {
-    if w == 32 {
-        2072
-    } else if w == 64 {
-        2869
-    } else {
-        3904
+    match w {
+        32 => 2072,
+        64 => 2869,
+        _ => 3904,
     }
 }
 
-// 0 declares, 1 defines, 2 asserts.
-fn line_ok(p: Place, v: usize) -> bool
-    ensures { result ≡ line_ok none p no_line v }
-{
-    if v == 0 {
-        (p.part == 0) & (p.top < 65535)
-    } else if v == 1 {
-        (p.part <= 1) & (p.gap < 65535)
-    } else {
-        (p.owed == 65535) & (p.due < 65535)
-    }
-}
-
-// Node m can become a float that an FpToIeeeBv reads.
-fn read_ok(lowest: &[u16], p: Place, m: usize) -> bool
-    ensures { result ≡ read_ok (seen [] [] lowest.now) p no_line m }
-{
-    (p.gap < m) | present::source(lowest, 3904, m)
-}
-
-// Kinds 1 to 5, and an FpToIeeeBv of some number.
-fn kind_ok(lowest: &[u16], p: Place, l: Line, k: usize) -> bool
-    ensures { result ≡ kind_ok (seen [] [] lowest.now) p l k }
-{
-    let other = present::source(lowest, 3904, p.gap);
-    ((1 <= k) & (k <= 5)) | ((k == 26) & ((p.gap < l.node) & ((p.next < l.node) | other)))
-}
-
-// fsw has the number 0, a flag 0 to 2, an FpToIeeeBv that of its operand.
-fn number_ok(kinds: &[u8], lowest: &[u16], p: Place, l: Line, a: usize) -> bool
-    ensures { result ≡ number_ok (seen kinds.now [] lowest.now) p l a }
-{
-    if l.kind == 4 {
-        a == 0
-    } else if l.kind == 5 {
-        a <= 2
-    } else {
-        ((a < l.node) & (kind_at(kinds, a) == 0)) & read_ok(lowest, p, a)
-    }
-}
-
-// A digit of a number below 2^64 without leading zeros, or 10, its end.
-fn digit_ok(l: Line, d: usize) -> bool
-    ensures { result ≡ digit_ok none no_place l d }
-{
-    if d == 10 {
-        l.left == 1
-    } else {
-        ((l.left == 0) | !(l.a == 0)) & (l.a <= (18446744073709551615 - d) / 10)
-    }
-}
-
-// The width of an FpToIeeeBv.
-fn pattern_ok(sorts: &[u16], lowest: &[u16], p: Place, l: Line, w: usize) -> bool
-    ensures { result ≡ pattern_ok (seen [] sorts.now lowest.now) p l w }
-{
-    let f = format_of(w);
-    let s = sort_at(sorts, l.a);
-    let width = (w == 32) | (w == 64) | (w == 79);
-    if s == 0 {
-        width & ((p.gap < l.a) | present::source(lowest, f, l.a))
-    } else {
-        width & (s == f)
-    }
-}
-
-// The width of a declared node.
-fn width_ok(sorts: &[u16], lowest: &[u16], p: Place, l: Line, w: usize) -> bool
-    ensures { result ≡ width_ok (seen [] sorts.now lowest.now) p l w }
-{
-    if l.kind == 1 {
-        (w == 79) | (w == 16)
-    } else if l.kind <= 3 {
-        sorts::is_stored(w as u64)
-    } else if l.kind == 4 {
-        w == 16
-    } else if l.kind == 5 {
-        w == 1
-    } else {
-        pattern_ok(sorts, lowest, p, l, w)
-    }
-}
-
-// A defined number is over those before it, and passes over none that is obliged.
-fn defined_ok(kinds: &[u8], sorts: &[u16], lowest: &[u16], p: Place, n: usize) -> bool
-    ensures { result ≡ defined_ok (seen kinds.now sorts.now lowest.now) p no_line n }
-{
-    let open = (p.gap <= n) & (n < 65535) & (kind_at(kinds, n) == 0);
-    let made = present::source(lowest, sort_at(sorts, n), n);
-    open & ((n < p.owed) | ((n == p.owed) & made))
-}
-
-// The number that is obliged next can still become what it has to.
-fn chance_ok(sorts: &[u16], lowest: &[u16], p: Place, l: Line, s: usize) -> bool
-    ensures { result ≡ chance_ok (seen [] sorts.now lowest.now) p l s }
-{
-    let f = sort_at(sorts, p.owed);
-    let made = present::source(lowest, f, p.owed);
-    ((p.owed == 65535) | made) | ((l.after < p.owed) | present::suits(f, s))
-}
-
-// The sort of a defined node.
-fn sort_ok(sorts: &[u16], lowest: &[u16], p: Place, l: Line, s: usize) -> bool
-    ensures { result ≡ sort_ok (seen [] sorts.now lowest.now) p l s }
-{
-    let f = sort_at(sorts, l.node);
-    if f == 0 {
-        let float = sorts::is_float(s as u64) & present::source(lowest, s, l.node);
-        (sorts::is_bits(s as u64) | float) & chance_ok(sorts, lowest, p, l, s)
-    } else {
-        s == f
-    }
-}
-
-// What opens a term of s bits.
-fn bits_ok(lowest: &[u16], k: usize, s: usize, n: usize) -> bool
-    ensures { result ≡ bits_ok (seen [] [] lowest.now) no_place no_line k s n }
-{
-    let one = present::below(lowest, 1, n);
-    let own = present::below(lowest, s, n);
-    let float = present::some_float(lowest, n);
-    let logic = ((k == 6) | (((k == 7) | (k == 8)) & own))
-        | (((k == 9) & ((one & own) | ((s == 1) & present::some_from(lowest, 1, n))))
-            | ((((10 <= k) & (k <= 12)) & ((s == 1) & one))
-                | ((k == 14) & present::some_from(lowest, s, n))));
-    logic
-        | (((k == 15) & present::joins(lowest, s, n))
-            | ((((20 <= k) & (k <= 22)) & ((s == 1) & float))
-                | ((k == 27) & (sorts::is_word(s as u64) & float))))
-}
-
-// What opens a term of a float of format s.
-fn float_ok(lowest: &[u16], k: usize, s: usize, n: usize) -> bool
-    ensures { result ≡ float_ok (seen [] [] lowest.now) no_place no_line k s n }
-{
-    let own = present::below(lowest, s, n);
-    let made = present::source(lowest, s, n);
-    ((((16 <= k) & (k <= 19)) | ((k == 23) | (k == 24))) & own) | ((k == 25) & made)
-}
-
-// What opens a term of the line's sort.
-fn opening_ok(lowest: &[u16], l: Line, k: usize) -> bool
-    ensures { result ≡ opening_ok (seen [] [] lowest.now) no_place l k }
-{
-    if sorts::is_bits(l.sort as u64) {
-        bits_ok(lowest, k, l.sort, l.node)
-    } else {
-        float_ok(lowest, k, l.sort, l.node)
-    }
-}
-
-// A first operand of sort s is taken.
-fn first_taken(lowest: &[u16], l: Line, s: usize) -> bool
-    ensures { result ≡ sort_taken (seen [] [] lowest.now) no_place l 0 s }
-{
-    let k = l.kind;
-    if (((k == 7) | (k == 8)) | ((16 <= k) & (k <= 19))) | ((k == 23) | (k == 24)) {
-        s == l.sort
-    } else if k == 9 {
-        (l.sort == 1) & sorts::is_bits(s as u64)
-    } else if (10 <= k) & (k <= 13) {
-        s == 1
-    } else {
-        rare_taken(lowest, l, s)
-    }
-}
-
-// .. by an Extract, a Concat, or a kind that takes floats or gives one.
-fn rare_taken(lowest: &[u16], l: Line, s: usize) -> bool
-    ensures { result ≡ rare_taken (seen [] [] lowest.now) no_place l s }
-{
-    let k = l.kind;
-    if k == 14 {
-        sorts::is_bits(s as u64) & (l.r < s)
-    } else if k == 15 {
-        if s < l.sort {
-            sorts::is_bits(s as u64) & present::below(lowest, l.sort - s, l.node)
-        } else {
-            false
+#[tactic(auto, unfolding(smtgrammar::specs::Allowed::line_ok, smtgrammar::specs::Allowed::kind_ok, smtgrammar::specs::Allowed::number_ok, smtgrammar::specs::Allowed::digit_ok, smtgrammar::specs::Allowed::width_ok, smtgrammar::specs::Allowed::defined_ok, smtgrammar::specs::Allowed::sort_ok, smtgrammar::specs::Allowed::opening_ok, smtgrammar::specs::Allowed::sort_taken, smtgrammar::specs::Allowed::word_ok, smtgrammar::specs::Allowed::first_ok, smtgrammar::specs::Allowed::place_ok, smtgrammar::specs::Allowed::ok_at))]
+impl State<'_> {
+    // 0 declares, 1 defines, 2 asserts.
+    fn line_ok(&self, v: usize) -> bool
+        ensures { result ≡ line_ok (seen self.now.tables) self.now.place self.now.line v }
+    {
+        let p = &self.place;
+        match v {
+            0 => p.part == 0 && p.top < 65535,
+            1 => p.part <= 1 && p.gap < 65535,
+            _ => p.owed == 65535 && p.due < 65535,
         }
-    } else if ((20 <= k) & (k <= 22)) | (k == 27) {
-        sorts::is_float(s as u64)
-    } else if k == 25 {
-        s == sorts::pattern_width(l.sort as u64) as usize
-    } else {
-        sorts::is_float(s as u64) | ((l.sort == 3904) & sorts::is_word(s as u64))
     }
-}
 
-// An operand j of sort s is taken.
-fn sort_taken(sorts: &[u16], lowest: &[u16], l: Line, j: usize, s: usize) -> bool
-    ensures { result ≡ sort_taken (seen [] sorts.now lowest.now) no_place l j s }
-{
-    let k = l.kind;
-    if j == 0 {
-        return first_taken(lowest, l, s);
+    // A declared number is over those before it.
+    fn declared_ok(&self, n: usize) -> bool
+        ensures { result ≡ declared_ok (seen self.now.tables) self.now.place self.now.line n }
+    {
+        self.place.top <= n && n < 65535
     }
-    let first = sort_at(sorts, l.a);
-    if (j == 1) & (((k == 9) | (k == 20)) | (k == 21)) {
-        s == first
-    } else if (j == 1) & ((k == 10) | (k == 11)) {
-        s == 1
-    } else if (j == 1) & (k == 15) {
-        s == rest(l.sort, first)
-    } else {
-        s == l.sort
+
+    // Node m can become a float that an FpToIeeeBv reads.
+    fn read_ok(&self, m: usize) -> bool
+        ensures { result ≡ read_ok (seen self.now.tables) self.now.place self.now.line m }
+    {
+        self.place.gap < m || self.tables.source(3904, m)
     }
-}
 
-// What is left of s behind a first part, 0 where it is longer.
-fn rest(s: usize, first: usize) -> usize
-    ensures { result ≡ s - first }
-{
-    if first < s { s - first } else { 0 }
-}
-
-// Node i may be operand j: it is there, below, and has a sort that is taken.
-fn operand_ok(kinds: &[u8], sorts: &[u16], lowest: &[u16], l: Line, j: usize, i: usize) -> bool
-    ensures { result ≡ operand_ok (seen kinds.now sorts.now lowest.now) no_place l j i }
-{
-    let there = (i < l.node) & !(kind_at(kinds, i) == 0);
-    there & sort_taken(sorts, lowest, l, j, sort_at(sorts, i))
-}
-
-// The word `#b1` (0), RNE (1) or RTZ (2) in the place of a first operand.
-fn word_ok(lowest: &[u16], l: Line, v: usize) -> bool
-    ensures { result ≡ word_ok (seen [] [] lowest.now) no_place l v }
-{
-    if l.kind == 9 {
-        (v == 0) & (present::below(lowest, 1, l.node) & present::below(lowest, l.sort, l.node))
-    } else if l.kind == 25 {
-        let word = (l.sort == 3904) & present::some_word(lowest, l.node);
-        ((v == 1) | (v == 2)) & (present::some_float(lowest, l.node) | word)
-    } else {
-        (v == 1) | (v == 2)
+    // Kinds 1 to 5, and an FpToIeeeBv of some number.
+    fn kind_ok(&self, k: usize) -> bool
+        ensures { result ≡ kind_ok (seen self.now.tables) self.now.place self.now.line k }
+    {
+        let p = &self.place;
+        match k {
+            1..=5 => true,
+            26 => {
+                let node = self.line.node;
+                p.gap < node && (p.next < node || self.tables.source(3904, p.gap))
+            }
+            _ => false,
+        }
     }
-}
 
-// A first operand, or from 65,536 on a word.
-fn first_ok(kinds: &[u8], sorts: &[u16], lowest: &[u16], l: Line, v: usize) -> bool
-    ensures { result ≡ first_ok (seen kinds.now sorts.now lowest.now) no_place l v }
-{
-    if v < 65536 {
-        ((l.kind == 9) | (l.kind == 25)) & operand_ok(kinds, sorts, lowest, l, 0, v)
-    } else {
-        word_ok(lowest, l, v - 65536)
+    // fsw has the number 0, a flag 0 to 2, an FpToIeeeBv that of its operand.
+    fn number_ok(&self, a: usize) -> bool
+        ensures { result ≡ number_ok (seen self.now.tables) self.now.place self.now.line a }
+    {
+        match self.line.kind {
+            4 => a == 0,
+            5 => a <= 2,
+            _ => a < self.line.node && kind_at(self.tables.kinds, a) == 0 && self.read_ok(a),
+        }
     }
-}
 
-// The high place of an Extract of that many bits.
-fn place_ok(lowest: &[u16], l: Line, hi: usize) -> bool
-    ensures { result ≡ place_ok (seen [] [] lowest.now) no_place l hi }
-{
-    if hi < 80 {
-        (l.sort <= hi + 1) & present::some_from(lowest, hi + 1, l.node)
-    } else {
-        false
+    // A digit of a number below 2^64 without leading zeros, or 10, its end.
+    fn digit_ok(&self, d: usize) -> bool
+        ensures { result ≡ digit_ok (seen self.now.tables) self.now.place self.now.line d }
+    {
+        let l = &self.line;
+        if d == 10 {
+            l.left == 1
+        } else {
+            (l.left == 0 || l.a != 0) && l.a <= (u64::MAX as usize - d) / 10
+        }
     }
-}
 
-// The choices of a definition's stages.
-fn defining_ok(kinds: &[u8], sorts: &[u16], lowest: &[u16], p: Place, l: Line, v: usize) -> bool
-    ensures { result ≡ defining_ok (seen kinds.now sorts.now lowest.now) p l v }
-{
-    let stage = l.stage;
-    match stage {
-        6 => defined_ok(kinds, sorts, lowest, p, v),
-        7 => sort_ok(sorts, lowest, p, l, v),
-        8 => opening_ok(lowest, l, v),
-        9 => first_ok(kinds, sorts, lowest, l, v),
-        10 => operand_ok(kinds, sorts, lowest, l, 0, v),
-        11 => operand_ok(kinds, sorts, lowest, l, 1, v),
-        12 => operand_ok(kinds, sorts, lowest, l, 2, v),
-        13 => place_ok(lowest, l, v),
-        _ => true,
+    // The width of an FpToIeeeBv.
+    fn pattern_ok(&self, w: usize) -> bool
+        ensures { result ≡ pattern_ok (seen self.now.tables) self.now.place self.now.line w }
+    {
+        let f = format_of(w);
+        let a = self.line.a;
+        let s = sort_at(self.tables.sorts, a);
+        let fits = if s == 0 {
+            self.place.gap < a || self.tables.source(f, a)
+        } else {
+            s == f
+        };
+        fits && (w == 32 || w == 64 || w == 79)
+    }
+
+    // The width of a declared node.
+    fn width_ok(&self, w: usize) -> bool
+        ensures { result ≡ width_ok (seen self.now.tables) self.now.place self.now.line w }
+    {
+        match self.line.kind {
+            1 => w == 79 || w == 16,
+            0..=3 => sorts::is_stored(w as u64),
+            4 => w == 16,
+            5 => w == 1,
+            _ => self.pattern_ok(w),
+        }
+    }
+
+    // A defined number is over those before it, and passes over none that is obliged.
+    fn defined_ok(&self, n: usize) -> bool
+        ensures { result ≡ defined_ok (seen self.now.tables) self.now.place self.now.line n }
+    {
+        let p = &self.place;
+        let open = p.gap <= n && n < 65535 && kind_at(self.tables.kinds, n) == 0;
+        open && (n < p.owed || n == p.owed && self.tables.source(sort_at(self.tables.sorts, n), n))
+    }
+
+    // The number that is obliged next can still become what it has to.
+    fn chance_ok(&self, s: usize) -> bool
+        ensures { result ≡ chance_ok (seen self.now.tables) self.now.place self.now.line s }
+    {
+        let p = &self.place;
+        let f = sort_at(self.tables.sorts, p.owed);
+        p.owed == 65535 || self.tables.source(f, p.owed) || self.line.after < p.owed || suits(f, s)
+    }
+
+    // The sort of a defined node.
+    fn sort_ok(&self, s: usize) -> bool
+        ensures { result ≡ sort_ok (seen self.now.tables) self.now.place self.now.line s }
+    {
+        let node = self.line.node;
+        match sort_at(self.tables.sorts, node) {
+            0 => {
+                let float = sorts::is_float(s as u64) && self.tables.source(s, node);
+                (sorts::is_bits(s as u64) || float) && self.chance_ok(s)
+            }
+            f => s == f,
+        }
+    }
+
+    // What opens a term of s bits.
+    fn bits_ok(&self, k: usize, s: usize, n: usize) -> bool
+        ensures { result ≡ bits_ok (seen self.now.tables) self.now.place self.now.line k s n }
+    {
+        let t = &self.tables;
+        match k {
+            6 => true,
+            7 | 8 => t.below(s, n),
+            9 => t.below(1, n) && t.below(s, n) || s == 1 && t.some_from(1, n),
+            10..=12 => s == 1 && t.below(1, n),
+            14 => t.some_from(s, n),
+            15 => t.joins(s, n),
+            20..=22 => s == 1 && t.some_float(n),
+            27 => sorts::is_word(s as u64) && t.some_float(n),
+            _ => false,
+        }
+    }
+
+    // What opens a term of a float of format s.
+    fn float_ok(&self, k: usize, s: usize, n: usize) -> bool
+        ensures { result ≡ float_ok (seen self.now.tables) self.now.place self.now.line k s n }
+    {
+        match k {
+            16..=19 | 23 | 24 => self.tables.below(s, n),
+            25 => self.tables.source(s, n),
+            _ => false,
+        }
+    }
+
+    // What opens a term of the line's sort.
+    fn opening_ok(&self, k: usize) -> bool
+        ensures { result ≡ opening_ok (seen self.now.tables) self.now.place self.now.line k }
+    {
+        if sorts::is_bits(self.line.sort as u64) {
+            self.bits_ok(k, self.line.sort, self.line.node)
+        } else {
+            self.float_ok(k, self.line.sort, self.line.node)
+        }
+    }
+
+    // A first operand of sort s is taken.
+    fn first_taken(&self, s: usize) -> bool
+        ensures { result ≡ sort_taken (seen self.now.tables) self.now.place self.now.line 0 s }
+    {
+        let l = &self.line;
+        match l.kind {
+            7 | 8 | 16..=19 | 23 | 24 => s == l.sort,
+            9 => l.sort == 1 && sorts::is_bits(s as u64),
+            10..=13 => s == 1,
+            _ => self.rare_taken(s),
+        }
+    }
+
+    // .. by an Extract, a Concat, or a kind that takes floats or gives one.
+    fn rare_taken(&self, s: usize) -> bool
+        ensures { result ≡ rare_taken (seen self.now.tables) self.now.place self.now.line s }
+    {
+        let l = &self.line;
+        match l.kind {
+            14 => sorts::is_bits(s as u64) && l.r < s,
+            15 => sorts::is_bits(s as u64) && s < l.sort && self.tables.below(l.sort - s, l.node),
+            20..=22 | 27 => sorts::is_float(s as u64),
+            25 => s == sorts::pattern_width(l.sort as u64) as usize,
+            _ => sorts::is_float(s as u64) || l.sort == 3904 && sorts::is_word(s as u64),
+        }
+    }
+
+    // An operand j of sort s is taken.
+    fn sort_taken(&self, j: usize, s: usize) -> bool
+        ensures { result ≡ sort_taken (seen self.now.tables) self.now.place self.now.line j s }
+    {
+        let l = &self.line;
+        let first = sort_at(self.tables.sorts, l.a);
+        match (j, l.kind) {
+            (0, _) => self.first_taken(s),
+            (1, 9 | 20 | 21) => s == first,
+            (1, 10 | 11) => s == 1,
+            (1, 15) => s == l.sort.saturating_sub(first),
+            _ => s == l.sort,
+        }
+    }
+
+    // Node i may be operand j: it is there, below, and has a sort that is taken.
+    fn operand_ok(&self, j: usize, i: usize) -> bool
+        ensures { result ≡ operand_ok (seen self.now.tables) self.now.place self.now.line j i }
+    {
+        i < self.line.node
+            && kind_at(self.tables.kinds, i) != 0
+            && self.sort_taken(j, sort_at(self.tables.sorts, i))
+    }
+
+    // The word `#b1` (0), RNE (1) or RTZ (2) in the place of a first operand.
+    fn word_ok(&self, v: usize) -> bool
+        ensures { result ≡ word_ok (seen self.now.tables) self.now.place self.now.line v }
+    {
+        let l = &self.line;
+        let t = &self.tables;
+        match l.kind {
+            9 => v == 0 && t.below(1, l.node) && t.below(l.sort, l.node),
+            25 => {
+                let word = l.sort == 3904 && t.some_word(l.node);
+                (v == 1 || v == 2) && (t.some_float(l.node) || word)
+            }
+            _ => v == 1 || v == 2,
+        }
+    }
+
+    // A first operand, or from 65,536 on a word.
+    fn first_ok(&self, v: usize) -> bool
+        ensures { result ≡ first_ok (seen self.now.tables) self.now.place self.now.line v }
+    {
+        if v < 65536 {
+            (self.line.kind == 9 || self.line.kind == 25) && self.operand_ok(0, v)
+        } else {
+            self.word_ok(v - 65536)
+        }
+    }
+
+    // The high place of an Extract of that many bits.
+    fn place_ok(&self, hi: usize) -> bool
+        ensures { result ≡ place_ok (seen self.now.tables) self.now.place self.now.line hi }
+    {
+        hi < 80 && self.line.sort <= hi + 1 && self.tables.some_from(hi + 1, self.line.node)
+    }
+
+    // The choices of a definition's stages.
+    fn defining_ok(&self, v: usize) -> bool
+        ensures { result ≡ defining_ok (seen self.now.tables) self.now.place self.now.line v }
+    {
+        match self.line.stage {
+            6 => self.defined_ok(v),
+            7 => self.sort_ok(v),
+            8 => self.opening_ok(v),
+            9 => self.first_ok(v),
+            10 => self.operand_ok(0, v),
+            11 => self.operand_ok(1, v),
+            12 => self.operand_ok(2, v),
+            13 => self.place_ok(v),
+            _ => true,
+        }
     }
 }
 
 // Whether the choice v lets a text follow, at the line's stage.
-pub fn ok_at(kinds: &[u8], sorts: &[u16], lowest: &[u16], p: Place, l: Line, v: usize) -> bool
-    ensures { result ≡ ok_at (seen kinds.now sorts.now lowest.now) p l v }
+#[tactic(auto, unfolding(smtgrammar::specs::Allowed::line_ok, smtgrammar::specs::Allowed::kind_ok, smtgrammar::specs::Allowed::number_ok, smtgrammar::specs::Allowed::digit_ok, smtgrammar::specs::Allowed::width_ok, smtgrammar::specs::Allowed::defined_ok, smtgrammar::specs::Allowed::sort_ok, smtgrammar::specs::Allowed::opening_ok, smtgrammar::specs::Allowed::sort_taken, smtgrammar::specs::Allowed::word_ok, smtgrammar::specs::Allowed::first_ok, smtgrammar::specs::Allowed::place_ok, smtgrammar::specs::Allowed::ok_at))]
+pub fn ok_at(s: &State, v: usize) -> bool
+    ensures { result ≡ ok_at (seen s.now.tables) s.now.place s.now.line v }
 {
-    let stage = l.stage;
-    match stage {
-        0 => line_ok(p, v),
-        1 => (p.top <= v) & (v < 65535),
-        2 => kind_ok(lowest, p, l, v),
-        3 => number_ok(kinds, lowest, p, l, v),
-        4 => digit_ok(l, v),
-        5 => width_ok(sorts, lowest, p, l, v),
-        _ => defining_ok(kinds, sorts, lowest, p, l, v),
+    match s.line.stage {
+        0 => s.line_ok(v),
+        1 => s.declared_ok(v),
+        2 => s.kind_ok(v),
+        3 => s.number_ok(v),
+        4 => s.digit_ok(v),
+        5 => s.width_ok(v),
+        _ => s.defining_ok(v),
     }
 }

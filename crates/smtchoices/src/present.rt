@@ -2,65 +2,51 @@
 ghost use Rattle.std.specs.Prelude.{◌≡◌};
 ghost use Rattle.smtgrammar.specs.Present.{below, some_float, some_word, some_from, joins, source, suits};
 
-// Some node below n has the sort s.
-pub(crate) fn below(lowest: &[u16], s: usize, n: usize) -> bool
-    ensures { result ≡ below lowest.now s n }
-{
-    if s < lowest.len() {
-        (lowest[s] as usize) < n
-    } else {
-        65535 < n
+use crate::Tables;
+
+impl Tables<'_> {
+    // Some node below n has the sort s.
+    pub(crate) fn below(&self, s: usize, n: usize) -> bool
+        ensures { result ≡ below self.now.lowest.now s n }
+    {
+        (self.lowest.get(s).copied().unwrap_or(65535) as usize) < n
     }
-}
 
-// .. that of a float.
-pub(crate) fn some_float(lowest: &[u16], n: usize) -> bool
-    ensures { result ≡ some_float lowest.now n }
-{
-    below(lowest, 2072, n) | below(lowest, 2869, n) | below(lowest, 3904, n)
-}
-
-// .. that of a whole number.
-pub(crate) fn some_word(lowest: &[u16], n: usize) -> bool
-    ensures { result ≡ some_word lowest.now n }
-{
-    below(lowest, 16, n) | below(lowest, 32, n) | below(lowest, 64, n)
-}
-
-// .. a width of u or more.
-pub(crate) fn some_from(lowest: &[u16], u: usize, n: usize) -> bool
-    ensures { result ≡ some_from lowest.now u n }
-{
-    let mut w = u;
-    while w < 81 {
-        if below(lowest, w, n) {
-            return true;
-        }
-        w += 1;
+    // .. that of a float.
+    pub(crate) fn some_float(&self, n: usize) -> bool
+        ensures { result ≡ some_float self.now.lowest.now n }
+    {
+        self.below(2072, n) | self.below(2869, n) | self.below(3904, n)
     }
-    false
-}
 
-// Two widths that add up to s.
-pub(crate) fn joins(lowest: &[u16], s: usize, n: usize) -> bool
-    ensures { result ≡ joins lowest.now s n }
-{
-    let mut w = 1;
-    while w < s {
-        if below(lowest, w, n) & below(lowest, s - w, n) {
-            return true;
-        }
-        w += 1;
+    // .. that of a whole number.
+    pub(crate) fn some_word(&self, n: usize) -> bool
+        ensures { result ≡ some_word self.now.lowest.now n }
+    {
+        self.below(16, n) | self.below(32, n) | self.below(64, n)
     }
-    false
-}
 
-// A float of format f can be made of a node below n.
-pub(crate) fn source(lowest: &[u16], f: usize, n: usize) -> bool
-    ensures { result ≡ source lowest.now f n }
-{
-    let w = sorts::pattern_width(f as u64) as usize;
-    below(lowest, w, n) | some_float(lowest, n) | ((f == 3904) & some_word(lowest, n))
+    // .. a width of u or more.
+    pub(crate) fn some_from(&self, u: usize, n: usize) -> bool
+        ensures { result ≡ some_from self.now.lowest.now u n }
+    {
+        (u..81).any(|w| self.below(w, n))
+    }
+
+    // Two widths that add up to s.
+    pub(crate) fn joins(&self, s: usize, n: usize) -> bool
+        ensures { result ≡ joins self.now.lowest.now s n }
+    {
+        (1..s).any(|w| self.below(w, n) & self.below(s - w, n))
+    }
+
+    // A float of format f can be made of a node below n.
+    pub(crate) fn source(&self, f: usize, n: usize) -> bool
+        ensures { result ≡ source self.now.lowest.now f n }
+    {
+        let w = sorts::pattern_width(f as u64) as usize;
+        self.below(w, n) | self.some_float(n) | ((f == 3904) & self.some_word(n))
+    }
 }
 
 // A float of format f can be made of a node of sort s.

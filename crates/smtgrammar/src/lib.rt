@@ -19,6 +19,19 @@ pub struct Place {
     pub count: usize,
 }
 
+impl Place {
+    // Nothing has been read.
+    pub const START: Place = Place {
+        part: 0,
+        top: 0,
+        gap: 0,
+        next: 1,
+        owed: 65535,
+        due: 65535,
+        count: 0,
+    };
+}
+
 // In a line.
 #[derive(Clone, Copy)]
 pub struct Line {
@@ -37,4 +50,19 @@ pub struct Line {
     pub left: usize,
     // The lowest number behind it that can be defined.
     pub after: usize,
+}
+
+impl Line {
+    // No line has begun.
+    pub const NONE: Line = Line {
+        stage: 0,
+        node: 0,
+        kind: 0,
+        sort: 0,
+        a: 0,
+        b: 0,
+        r: 0,
+        left: 0,
+        after: 0,
+    };
 }

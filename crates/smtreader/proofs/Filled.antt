@@ -1,7 +1,7 @@
 -- What a run has read stands as rows, or is too much for the room.
-use mathlib.Core.Path.{◌≡◌, refl, sym, ◌∙◌}
+use mathlib.Core.Path.{◌≡◌, sym, ◌∙◌}
 use mathlib.Core.List.{List, ◌++◌}
-use Prim.Native.Nat.{ℕ, ◌+◌, ◌*◌, ◌≤◌, ◌<◌}
+use Prim.Native.Nat.{ℕ, ◌+◌, ◌*◌, ◌≤◌}
 use native.Mathlib.Omega.{arith}
 use lib.ListN.{length, drop}
 use lib.Seq.{sets, sets-eq}
@@ -11,9 +11,9 @@ use Rattle.smtgrammar.specs.Rows.{rank_at, rows_below}
 use Rattle.smtsound.specs.Nodes.{Nodes}
 use Rattle.smtreader.specs.Padded.{padded, rows-padded}
 use Rattle.smtreader.specs.Ran.{Read}
-use Rattle.smtreader.specs.Ranks.{Fit, Written}
-use Rattle.smtreader.specs.Text.{Rows, Full}
-use Rattle.smtreader.proofs.Ranks.{bare, rows_same, rows_long, fit_of}
+use Rattle.smtreader.specs.Ranks.{bare, Fit, Written}
+use Rattle.smtreader.specs.Text.{Rows}
+use Rattle.smtreader.proofs.Ranks.{rows_same, rows_long, fit_of}
 
 module _ (t : Tables) {x : List ℕ} {n : ℕ} (h : Read x t n) where
   nodes-are : Nodes (padded t) h.last.place.part h.last.place.top h.last.place.owed
@@ -32,9 +32,6 @@ module _ (t : Tables) {x : List ℕ} {n : ℕ} (h : Read x t n) where
     fits_in k q = rw q at (fit_of t nodes-are m enough)
 
   module _ (old : List ℕ) (r : ℕ) (e : r ≡ room_of (length old)) where
-    pub too_many : r < n → Full x old old
-    too_many l = record { last = h.last; reads = h.reads; many = (let c = h.count in omega arith); nodes = refl }
-
     front : n ≤ r → sets old 0 (rows_below t 65535) ≡ rows_below t 65535 ++ drop (4 * n) old
     front l =
         let y = rows_long t 65535 in

@@ -1,5 +1,5 @@
 pub mod Seek
 pub mod Bounds
-pub mod Ends
 pub mod Ranks
 pub mod Filled
+pub mod Lines

@@ -7,6 +7,7 @@ use native.Mathlib.Numerals.{add-one}
 use native.Mathlib.Omega.{arith}
 use native.Mathlib.Decide.{dec_lt}
 use lib.ListN.{length, get_or, set, length-append, get_or-eq_default}
+use Rattle.std.proofs.Common.{append-nil}
 use lib.Seq.{sets, length-sets, get_or-set_same, get_or-set_other}
 use Rattle.smtgrammar.specs.State.{Tables}
 use borrow.Author.Tests.{leb-true}
@@ -14,10 +15,8 @@ use lib.Dec.{leb}
 use Rattle.lists.proofs.Runs.{sets-append}
 use Rattle.viable.specs.Grammar.{clash}
 use Rattle.needs.specs.Needed.{arity}
-use Rattle.smtchoices.specs.Seen.{seen}
-use Rattle.smtreader.specs.Ranks.{Ranks, by_rank, row_of, Added, Fit, Written}
+use Rattle.smtreader.specs.Ranks.{Ranks, bare, by_rank, row_of, Fit, Written}
 use Rattle.smtgrammar.specs.Rows.{there, rank_at, ranked, rows_below}
-use Rattle.smtreader.specs.Inside.{tables_of}
 use Rattle.smtreader.specs.Padded.{pad, padded, get-pad, rank-past, rows-past}
 use Rattle.smtsound.specs.Nodes.{Node, Nodes}
 use Rattle.smtsound.specs.Tables.{Is, same?}
@@ -55,13 +54,12 @@ pub rank-on : (t : Tables) (l : List ℕ) (i n : ℕ) → i < length l → n ≡
     → (j : ℕ) → j < i + 1 → get_or (set l i n) j 0 ≡ rank_at t j
 rank-on t l i n h e f j k = same? j i (λ z. rw (z, get_or-set_same l i n 0 h) e) (λ z. get_or-set_other l i j n 0 z ∙ f j (omega arith))
 
--- four stores
-pub put_is : (l : List ℕ) (i k a b c : ℕ) → set (set (set (set l i k) (i + 1) a) (i + 2) b) (i + 3) c ≡ sets l i (k ∷ a ∷ b ∷ c ∷ [])
-put_is l i k a b c =
-    let x : i + 1 ≡ suc i = omega arith in
-    let y : i + 2 ≡ suc (suc i) = omega arith in
-    let z : i + 3 ≡ suc (suc (suc i)) = omega arith in
-    rw (x, y, z)
+-- .. and how many there are behind it
+pub rank-there : (t : Tables) (i n : ℕ) → n ≡ rank_at t i → there t i ≡ true → n + 1 ≡ rank_at t (i + 1)
+rank-there t i n e k = rw (rank-next t i, k, e)
+
+pub rank-past-one : (t : Tables) (i n : ℕ) → n ≡ rank_at t i → there t i ≡ false → n ≡ rank_at t (i + 1)
+rank-past-one t i n e k = rw (rank-next t i, k, e) (omega arith)
 
 -- the ranks go by the kinds alone
 pub rank_same : (t u : Tables) → t.kinds ≡ u.kinds → (n : ℕ) → rank_at t n ≡ rank_at u n
@@ -69,15 +67,15 @@ unfolding rank_at
 rank_same t u e zero = refl
 rank_same t u e (suc n) = rw (rank_same t u e n, e)
 
-module _ (t : Tables) (ranks : List ℕ) (long : ℕ) (r : Ranks (seen t.kinds [] []) ranks) (f : Fit t (length ranks) long) where
+module _ (t : Tables) (ranks : List ℕ) (long : ℕ) (r : Ranks t ranks) (f : Fit t (length ranks) long) where
   field_is : (j n v : ℕ) → (j ≤ n → v < length ranks) → by_rank ranks n j v ≡ cond (leb j n) (rank_at t v) v
   field_is j n v h = go (leb j n) refl
     where
       go : (b : Bool) → leb j n ≡ b → cond b (get_or ranks v 0) v ≡ cond b (rank_at t v) v
-      go true e = r.at v (h (leb-true j n e)) ∙ rank_same (seen t.kinds [] []) t refl v
+      go true e = r.at v (h (leb-true j n e))
       go false e = refl
 
-  row_is : (i : ℕ) → cond (there t i) (row_of t.kinds t.field_a t.field_b t.field_c ranks i) []
+  row_is : (i : ℕ) → cond (there t i) (row_of t ranks i) []
       ≡ cond (there t i) (get_or t.kinds i 0 ∷ ranked t i 1 (get_or t.field_a i 0) ∷ ranked t i 2 (get_or t.field_b i 0) ∷ ranked t i 3 (get_or t.field_c i 0) ∷ []) []
   unfolding row_of
   row_is i = go (there t i) refl
@@ -91,23 +89,25 @@ module _ (t : Tables) (ranks : List ℕ) (long : ℕ) (r : Ranks (seen t.kinds [
           let n = arity (get_or t.kinds i 0) in
           rw (field_is 1 n (get_or t.field_a i 0) (f.one i is), field_is 2 n (get_or t.field_b i 0) (f.two i is), field_is 3 n (get_or t.field_c i 0) (f.three i is))
 
-  rows_next : (i : ℕ) → rows_below t (i + 1) ≡ rows_below t i ++ cond (there t i) (row_of t.kinds t.field_a t.field_b t.field_c ranks i) []
+  rows_next : (i : ℕ) → rows_below t (i + 1) ≡ rows_below t i ++ cond (there t i) (row_of t ranks i) []
   unfolding rows_below
   rows_next i = rw (add-one, row_is i)
 
-  pub write-on : (l₀ l l' : List ℕ) (i at q : ℕ) → l ≡ sets l₀ 0 (rows_below t i) → at ≡ 4 * rank_at t i
-      → Added (cond (there t i) 1 0) l l' (cond (there t i) (row_of t.kinds t.field_a t.field_b t.field_c ranks i) []) at q
-      → (l' ≡ sets l₀ 0 (rows_below t (i + 1))) × (q ≡ 4 * rank_at t (i + 1))
-  write-on l₀ l l' i at q e g a =
-      let z : 0 + length (rows_below t i) ≡ at = let y = rows_long t i in omega arith in
-      let x = cond (there t i) (row_of t.kinds t.field_a t.field_b t.field_c ranks i) [] in
-      (a.words ∙ (rw (rows_next i, sets-append l₀ (rows_below t i) x 0, z, e)), (rw (rank-next t i) (let y = a.behind in omega arith)))
+  module _ (l₀ l : List ℕ) (i at : ℕ) (e : l ≡ sets l₀ 0 (rows_below t i)) (g : at ≡ 4 * rank_at t i) where
+    -- a row more, where the node is there
+    pub write-on : there t i ≡ true → {l' : List ℕ} → l' ≡ sets l at (row_of t ranks i) → (l' ≡ sets l₀ 0 (rows_below t (i + 1))) × (at + 4 ≡ 4 * rank_at t (i + 1))
+    write-on k f =
+        let z : 0 + length (rows_below t i) ≡ at = let y = rows_long t i in omega arith in
+        (f ∙ rw (rows_next i, k, sets-append l₀ (rows_below t i) (row_of t ranks i) 0, z, e), rw (rank-next t i, k) (omega arith))
+
+    pub write-past : there t i ≡ false → (l ≡ sets l₀ 0 (rows_below t (i + 1))) × (at ≡ 4 * rank_at t (i + 1))
+    write-past k = (rw (rows_next i, k, append-nil) e, rw (rank-next t i, k) (omega arith))
 
 -- the next row has room
 pub room-on : (t : Tables) (l₀ l : List ℕ) (i at m : ℕ) → Fit t m (length l₀) → i < 65535 → l ≡ sets l₀ 0 (rows_below t i) → at ≡ 4 * rank_at t i
-    → at + 4 * cond (there t i) 1 0 ≤ length l
-room-on t l₀ l i at m f h e g =
-    let x = rank-next t i in
+    → there t i ≡ true → at + 4 ≤ length l
+room-on t l₀ l i at m f h e g k =
+    let x = rw k at (rank-next t i) in
     let y = rank_up t (i + 1) 65535 (omega arith) in
     let z = f.room in
     rw (e, length-sets l₀ 0 (rows_below t i)) (omega arith)
@@ -135,10 +135,7 @@ has-entry l i h = go (dec_lt i (length l))
     go (yes k) = k
     go (no k) = absurd (let z : length l ≤ i = omega arith in h (get_or-eq_default l 0 z))
 
--- the columns that the rows are made of
-abbrev pub bare : Tables → Tables
-bare t = tables_of t.kinds t.field_a t.field_b t.field_c [] []
-
+-- .. and they are enough
 pub rows_same : (t : Tables) (n : ℕ) → rows_below (bare t) n ≡ rows_below t n
 unfolding rows_below
 rows_same t zero = refl

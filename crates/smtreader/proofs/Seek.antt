@@ -1,41 +1,27 @@
--- One turn of a loop that seeks a number.
-use mathlib.Core.Path.{◌≡◌, ap, ◌∙◌}
-use mathlib.Core.Bool.{Bool, true, false, not, ◌&&◌}
-use Prim.Native.Nat.{ℕ, zero, suc, ◌+◌, ◌-◌, ◌≤◌, ◌<◌}
-use lib.Dec.{eqb}
-use lib.ListN.{get_or}
-use mathlib.Core.List.{List}
-use native.Mathlib.Omega.{arith}
+-- What `find` answers over the numbers from i on.
+use Rattle.std.specs.Prelude.{◌≡◌, Bool, true, false, cond, ℕ, zero, suc, ◌+◌, ◌-◌, ◌≤◌, ◌<◌, Option, Some, None}
+use Rattle.std.proofs.Common.{refl, arith}
+use native.Mathlib.Decide.{dec_lt}
+use Rattle.std.specs.Option.{MatchOption, unwrap_or}
 use Rattle.smtgrammar.specs.Next.{seek}
 
--- a number that is not there yet; that is obliged and not there yet; that is an FpToIeeeBv
-abbrev pub missing : List ℕ → ℕ → Bool
-missing kinds j = eqb (get_or kinds j 0) 0
-
-abbrev pub obliges : List ℕ → List ℕ → ℕ → Bool
-obliges kinds sorts j = eqb (get_or kinds j 0) 0 && not (eqb (get_or sorts j 0) 0)
-
-abbrev pub reads : List ℕ → ℕ → Bool
-reads kinds j = eqb (get_or kinds j 0) 26
-
-module _ (ok : ℕ → Bool) (none e : ℕ) where
-  one : (k i : ℕ) → 0 < k → ok i ≡ true → seek ok i k none ≡ i
+module _ (ok : ℕ → Bool) (none : ℕ) where
+  missing : (k i : ℕ) → ((j : ℕ) → i ≤ j → j < i + k → ok j ≡ false) → seek ok i k none ≡ none
   unfolding seek
-  one zero i h t = absurd (omega arith)
-  one (suc k) i h t = rw t
+  missing zero i f = refl
+  missing (suc k) i f = rw (f i (omega arith) (omega arith)) (missing k (i + 1) (λ j h l. f j (omega arith) (omega arith)))
 
-  past : (k i : ℕ) → 0 < k → ok i ≡ false → seek ok i k none ≡ seek ok (i + 1) (k - 1) none
+  found : (k i j : ℕ) → i ≤ j → j < i + k → ok j ≡ true → ((m : ℕ) → i ≤ m → m < j → ok m ≡ false) → seek ok i k none ≡ j
   unfolding seek
-  past zero i h t = absurd (omega arith)
-  past (suc k) i h t = let z : suc k - 1 ≡ k = omega arith in rw (t, z)
+  found zero i j h l e f = absurd (omega arith)
+  found (suc k) i j h l e f = go (dec_lt i j) (λ b. found k (i + 1) j (omega arith) (omega arith) e (λ m c d. f m (omega arith) d))
+    where
+      go : Dec (i < j) → (i < j → seek ok (i + 1) k none ≡ j) → cond (ok i) i (seek ok (i + 1) k none) ≡ j
+      go (yes b) g = rw (f i (omega arith) b) (g b)
+      go (no b) g = let z : i ≡ j = omega arith in rw (z, e)
 
-  -- the numbers from i on: one that passes, the next ones, or none
-  pub seek-here : (i : ℕ) → i < e → ok i ≡ true → seek ok i (e - i) none ≡ i
-  seek-here i h t = one (e - i) i (omega arith) t
-
-  pub seek-on : (i : ℕ) → i < e → ok i ≡ false → seek ok i (e - i) none ≡ seek ok (i + 1) (e - (i + 1)) none
-  seek-on i h t = past (e - i) i (omega arith) t ∙ ap (λ (k : ℕ). seek ok (i + 1) k none) (omega arith)
-
-  pub seek-none : (i : ℕ) → e ≤ i → seek ok i (e - i) none ≡ none
-  unfolding seek
-  seek-none i h = let z : e - i ≡ 0 = omega arith in rw z
+  pub seek_is : (i e : ℕ) (r : Option ℕ)
+      → MatchOption r ((j : ℕ) → i ≤ j → j < e → ok j ≡ false) (λ j. (i ≤ j) × (j < e) × (ok j ≡ true) × ((m : ℕ) → i ≤ m → m < j → ok m ≡ false))
+      → unwrap_or r none ≡ seek ok i (e - i) none
+  seek_is i e None f = rw (missing (e - i) i (λ j h l. f j h (omega arith)))
+  seek_is i e (Some j) f = rw (found (e - i) i j f.0 (omega arith) f.2 f.3)

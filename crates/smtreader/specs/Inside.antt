@@ -1,16 +1,18 @@
--- How the code goes from a choice to the next: the tables as six lists, and what the stores and sums need.
-use Rattle.std.specs.Prelude.{◌≡◌, List, ℕ, ◌+◌, ◌*◌, ◌^◌, ◌<◌, length}
+-- How the code goes from a choice to the next: the state that is lent, and what the stores and sums need.
+use Rattle.std.specs.Prelude.{◌≡◌, ℕ, ◌+◌, ◌*◌, ◌^◌, ◌<◌, length}
 use Rattle.smtgrammar.specs.declared.Place.{Place}
 use Rattle.smtgrammar.specs.declared.Line.{Line}
 use Rattle.smtgrammar.specs.State.{Tables, State}
 use Rattle.smtgrammar.specs.Grammar.{size_at}
-use Rattle.smtreader.specs.declared.next.At.{At}
+use Rattle.smtreader.specs.declared.columns.Columns.{Columns}
+use Rattle.smtreader.specs.declared.next.Reader.{Reader}
 
-abbrev pub tables_of : List ℕ → List ℕ → List ℕ → List ℕ → List ℕ → List ℕ → Tables
-tables_of kinds fa fb fc sorts lowest = record { kinds = kinds; field_a = fa; field_b = fb; field_c = fc; sorts = sorts; lowest = lowest }
+abbrev pub tables_of : Columns → Tables
+tables_of c =
+    record { kinds = c.kinds.now; field_a = c.firsts.now; field_b = c.seconds.now; field_c = c.thirds.now; sorts = c.sorts.now; lowest = c.lowest.now }
 
-abbrev pub state_of : Tables → At → State
-state_of t r = record { tables = t; place = r.place; line = r.line }
+abbrev pub state_of : Reader → State
+state_of r = record { tables = tables_of r.columns; place = r.place; line = r.line }
 
 -- number n has an entry in each column, and each sort one in the lowest numbers
 pub record Roomed (t : Tables) (n : ℕ) : Type 0 where

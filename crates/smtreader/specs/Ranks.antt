@@ -1,5 +1,5 @@
 -- How the rows are written: the ranks beforehand, then row behind row.
-use Rattle.std.specs.Prelude.{◌≡◌, cond, List, [], ◌∷◌, ℕ, ◌+◌, ◌*◌, ◌≤◌, ◌<◌, leb, length, get_or}
+use Rattle.std.specs.Prelude.{◌≡◌, cond, List, [], ◌∷◌, ℕ, ◌*◌, ◌≤◌, ◌<◌, leb, length, get_or}
 use Rattle.std.proofs.lemmas.List.Edits.{sets}
 use Rattle.needs.specs.Needed.{arity}
 use Rattle.smtgrammar.specs.State.{Tables}
@@ -15,15 +15,14 @@ abbrev pub by_rank : List ℕ → ℕ → ℕ → ℕ → ℕ
 by_rank ranks n j v = cond (leb j n) (get_or ranks v 0) v
 
 -- the row of node i
-unfoldable pub row_of : List ℕ → List ℕ → List ℕ → List ℕ → List ℕ → ℕ → List ℕ
-row_of kinds fa fb fc ranks i =
-    let n = arity (get_or kinds i 0) in
-    get_or kinds i 0 ∷ by_rank ranks n 1 (get_or fa i 0) ∷ by_rank ranks n 2 (get_or fb i 0) ∷ by_rank ranks n 3 (get_or fc i 0) ∷ []
+unfoldable pub row_of : Tables → List ℕ → ℕ → List ℕ
+row_of t ranks i =
+    let n = arity (get_or t.kinds i 0) in
+    get_or t.kinds i 0 ∷ by_rank ranks n 1 (get_or t.field_a i 0) ∷ by_rank ranks n 2 (get_or t.field_b i 0) ∷ by_rank ranks n 3 (get_or t.field_c i 0) ∷ []
 
--- a row was added where the test holds
-pub record Added (is : ℕ) (l l' x : List ℕ) (at r : ℕ) : Type 0 where
-  pub words : l' ≡ sets l at x
-  pub behind : r ≡ at + 4 * is
+-- the columns that the rows are made of
+abbrev pub bare : Tables → Tables
+bare t = record { kinds = t.kinds; field_a = t.field_a; field_b = t.field_b; field_c = t.field_c; sorts = []; lowest = [] }
 
 -- the operands of each node that is there are below m, and the rows have room
 pub record Fit (t : Tables) (m long : ℕ) : Type 0 where

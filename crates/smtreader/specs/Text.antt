@@ -1,5 +1,5 @@
 -- WHAT READING A TEXT PROMISES: the nodes that it says, or the place from which no text can follow.
-use Rattle.std.specs.Prelude.{◌≡◌, refl, List, ◌++◌, ℕ, ◌*◌, ◌≤◌, ◌<◌, length, drop}
+use Rattle.std.specs.Prelude.{◌≡◌, refl, List, ◌++◌, ℕ, ◌*◌, ◌≤◌, ◌<◌, length, drop, Option, Some, None, Result, Ok, Err}
 use Rattle.std.proofs.Common.{sym, ap, ◌∙◌, arith}
 use Rattle.viable.specs.Runs.{Stops, only, never, one_place}
 use Rattle.lists.specs.Rows.{room_of}
@@ -8,10 +8,8 @@ use Rattle.smtgrammar.specs.Grammar.{Token, done, Reads}
 use Rattle.smtgrammar.specs.Rows.{rows_below}
 use Rattle.smtlive.specs.Apart.{apart}
 use Rattle.smtlive.specs.Full.{full}
-use Rattle.smtreader.specs.declared.Reading as read
-use Rattle.smtreader.specs.declared.Reading.TheVariants as reads
-use Rattle.smtreader.specs.declared.Tried as tried
-use Rattle.smtreader.specs.declared.Tried.TheVariants as tries
+use Rattle.smtreader.specs.declared.ReadError.{ReadError}
+use Rattle.smtreader.specs.declared.ReadError.TheVariants as not
 
 -- n nodes, which fit
 pub record Rows (x old : List ℕ) (n : ℕ) (new : List ℕ) : Type 0 where
@@ -32,15 +30,15 @@ pub record Stopped (x old : List ℕ) (p : ℕ) (new : List ℕ) : Type 0 where
   pub stops : Stops Token done start x p
   pub nodes : new ≡ old
 
-abbrev pub ReadsText : List ℕ → List ℕ → read.Reading → List ℕ → Type 0
-ReadsText x old (reads.Rows n) new = Rows x old n new
-ReadsText x old (reads.Stop p) new = Stopped x old p new
-ReadsText x old reads.Room new = Full x old new
+abbrev pub ReadsText : List ℕ → List ℕ → Result ℕ ReadError → List ℕ → Type 0
+ReadsText x old (Ok n) new = Rows x old n new
+ReadsText x old (Err (not.Stop p)) new = Stopped x old p new
+ReadsText x old (Err not.Room) new = Full x old new
 
 -- what columns of n entries make of a text: what reading it promises; or they are too short, and nothing is written
-abbrev pub TriesText : List ℕ → List ℕ → ℕ → tried.Tried → List ℕ → Type 0
-TriesText x old n (tries.Told r) new = ReadsText x old r new
-TriesText x old n tries.Long new = (n < 65536) × (new ≡ old)
+abbrev pub TriesText : List ℕ → List ℕ → ℕ → Option (Result ℕ ReadError) → List ℕ → Type 0
+TriesText x old n (Some r) new = ReadsText x old r new
+TriesText x old n None new = (n < 65536) × (new ≡ old)
 
 module _ {x : List ℕ} where
   same : {ω ψ : State} → Reads x ω → Reads x ψ → ω ≡ ψ
@@ -59,25 +57,25 @@ module _ {x : List ℕ} where
       omega arith
 
 -- ONE READING: a text, and what the nodes were, fix the answer and what the nodes are
-pub one-reading : (x old l m : List ℕ) (a b : read.Reading) → ReadsText x old a l → ReadsText x old b m → (a ≡ b) × (l ≡ m)
-one-reading x old l m (reads.Rows n) (reads.Rows k) p q =
+pub one-reading : (x old l m : List ℕ) (a b : Result ℕ ReadError) → ReadsText x old a l → ReadsText x old b m → (a ≡ b) × (l ≡ m)
+one-reading x old l m (Ok n) (Ok k) p q =
     let e : n ≡ k = p.count ∙ same_count p.reads q.reads ∙ sym q.count in
     (rw e, p.nodes ∙ rw (e, same p.reads q.reads) (sym q.nodes))
-one-reading x old l m (reads.Rows n) (reads.Stop k) p q = absurd (stopped p.reads q.stops)
-one-reading x old l m (reads.Rows n) reads.Room p q =
+one-reading x old l m (Ok n) (Err (not.Stop k)) p q = absurd (stopped p.reads q.stops)
+one-reading x old l m (Ok n) (Err not.Room) p q =
     let e = same_count p.reads q.reads in
     let f = p.count in
     let g = p.fits in
     let h = q.many in
     absurd (omega arith)
-one-reading x old l m (reads.Stop n) (reads.Rows k) p q = absurd (stopped q.reads p.stops)
-one-reading x old l m (reads.Stop n) (reads.Stop k) p q = (rw (place p.stops q.stops), p.nodes ∙ sym q.nodes)
-one-reading x old l m (reads.Stop n) reads.Room p q = absurd (stopped q.reads p.stops)
-one-reading x old l m reads.Room (reads.Rows k) p q =
+one-reading x old l m (Err (not.Stop n)) (Ok k) p q = absurd (stopped q.reads p.stops)
+one-reading x old l m (Err (not.Stop n)) (Err (not.Stop k)) p q = (rw (place p.stops q.stops), p.nodes ∙ sym q.nodes)
+one-reading x old l m (Err (not.Stop n)) (Err not.Room) p q = absurd (stopped q.reads p.stops)
+one-reading x old l m (Err not.Room) (Ok k) p q =
     let e = same_count p.reads q.reads in
     let f = q.count in
     let g = q.fits in
     let h = p.many in
     absurd (omega arith)
-one-reading x old l m reads.Room (reads.Stop k) p q = absurd (stopped p.reads q.stops)
-one-reading x old l m reads.Room reads.Room p q = (refl, p.nodes ∙ sym q.nodes)
+one-reading x old l m (Err not.Room) (Err (not.Stop k)) p q = absurd (stopped p.reads q.stops)
+one-reading x old l m (Err not.Room) (Err not.Room) p q = (refl, p.nodes ∙ sym q.nodes)

@@ -1,18 +1,25 @@
 -- How much of a text stands at the front of another, part by part.
-use Rattle.std.specs.Prelude.{◌≡◌, refl, Bool, true, false, cond, List, [], ◌∷◌, ◌++◌, ℕ, suc, ◌+◌, ◌<◌, eqb, length, get_or}
-use Rattle.std.proofs.Common.{sym, ap, ◌∙◌, append-nil, append_assoc, arith, eqb-true, eq-eqb, ne_eqb, length-append}
-use Rattle.std.proofs.lemmas.Bool.{eqb-false}
-use Rattle.viable.specs.Family.{common, common-left}
-use Rattle.smttokens.specs.declared.Match.{Match}
+use Rattle.std.specs.Prelude.{◌≡◌, refl, Bool, true, false, cond, List, [], ◌∷◌, ◌++◌, ℕ, suc, ◌+◌, ◌<◌, eqb, length, get_or, Result, Ok, Err}
+use Rattle.std.proofs.Common.{sym, ap, ◌∙◌, append-nil, append_assoc, arith, eq-eqb, ne_eqb, length-append}
+use Rattle.viable.specs.Family.{common}
 
--- m says how much of t stands at the front of x, and whether all of it does
-pub record Matches (t x : List ℕ) (m : Match) : Type 0 where
-  pub far : m.far ≡ common t x
-  pub same : m.same ≡ eqb (common t x) (length t)
+-- all of t stands at the front of x, and ends at a place
+pub record There (t x : List ℕ) (at : ℕ) : Type 0 where
+  pub all : common t x ≡ length t
+  pub ends : at ≡ length t
 
--- r says it of a text of which m does, with a behind it
-pub record Extends (a x : List ℕ) (m r : Match) : Type 0 where
-  pub on : (t : List ℕ) → Matches t x m → Matches (t ++ a) x r
+-- .. or only so many bytes of it do
+pub record Part (t x : List ℕ) (far : ℕ) : Type 0 where
+  pub less : common t x < length t
+  pub reach : far ≡ common t x
+
+abbrev pub Matches : List ℕ → List ℕ → Result ℕ ℕ → Type 0
+Matches t x (Ok at) = There t x at
+Matches t x (Err far) = Part t x far
+
+-- r says it of a text that ends with a, of which what is before a ends at a place
+pub record Extends (a x : List ℕ) (at : ℕ) (r : Result ℕ ℕ) : Type 0 where
+  pub on : (t : List ℕ) → There t x at → Matches (t ++ a) x r
 
 -- all of t, and the byte behind it
 all-and : (t x : List ℕ) (b : ℕ) → common t x ≡ length t → length t < length x → get_or x (length t) 0 ≡ b → common (t ++ (b ∷ [])) x ≡ length t + 1
@@ -52,62 +59,50 @@ not-all (a ∷ t) (c ∷ x) u q = go (eqb a c) refl (not-all t x u)
     go true e f = ap suc (f (λ z. q (rw e (ap suc z))))
     go false e f = refl
 
-module _ {a x : List ℕ} {m r : Match} where
+module _ {a x : List ℕ} {at : ℕ} where
   -- one part, and then another
-  pub then : {b : List ℕ} {s : Match} → Extends a x m r → Extends b x r s → Extends (a ++ b) x m s
+  pub then : {b : List ℕ} {p : ℕ} {r : Result ℕ ℕ} → Extends a x at (Ok p) → Extends b x p r → Extends (a ++ b) x at r
   then {b} e f = record { on = λ t h. rw (← append_assoc t a b) (f.on (t ++ a) (e.on t h)) }
 
+  -- where not all was there, what is behind it does not matter
+  pub stops : (b : List ℕ) {f : ℕ} → Extends a x at (Err f) → Extends (a ++ b) x at (Err f)
+  stops b {f} e = record { on = λ t h. rw (← append_assoc t a b) (longer (t ++ a) (e.on t h)) }
+    where
+      longer : (t : List ℕ) → Part t x f → Part (t ++ b) x f
+      longer t p =
+          let k = p.less in
+          let z = not-all t x b (λ q. omega arith) in
+          record { less = omega (arith, length-append t b); reach = p.reach ∙ sym z }
+
   -- the same text by another name
-  pub also : {b : List ℕ} → a ≡ b → Extends a x m r → Extends b x m r
+  pub also : {b : List ℕ} {r : Result ℕ ℕ} → a ≡ b → Extends a x at r → Extends b x at r
   also e h = rw (← e) h
 
-  -- a whole text
-  pub whole : Matches [] x m → Extends a x m r → Matches a x r
-  whole h e = e.on [] h
-
 -- no text
-pub nothing : {x : List ℕ} {m : Match} → Extends [] x m m
+pub nothing : {x : List ℕ} {at : ℕ} → Extends [] x at (Ok at)
 nothing = record { on = λ t h. rw (append-nil t) h }
 
-pub begun : {x : List ℕ} → Matches [] x (record { far = 0; same = true })
+-- a whole text
+pub whole : {a x : List ℕ} {r : Result ℕ ℕ} → Extends a x 0 r → Matches a x r
 unfolding common
-begun = record { far = refl; same = refl }
-
--- all of a text is there, or not
-pub all_there : (t x : List ℕ) (m : Match) → Matches t x m → m.same ≡ true → common t x ≡ length t
-all_there t x m h e = eqb-true (common t x) (length t) (sym h.same ∙ e)
-
-pub not_there : (t x : List ℕ) (m : Match) → Matches t x m → m.same ≡ false → common t x ≡ length t → ⊥
-not_there t x m h e = eqb-false (common t x) (length t) (sym h.same ∙ e)
-
--- where not all was there, what is behind it does not matter
-pub stuck : {a x : List ℕ} {m : Match} → m.same ≡ false → Extends a x m m
-stuck {a} {x} {m} e =
-    record {
-      on = λ t h.
-          let q = not_there t x m h e in
-          let z = not-all t x a q in
-          record { far = h.far ∙ sym z; same = e ∙ sym (ne_eqb (common (t ++ a) x) (length (t ++ a)) (λ w. let b = common-left t x in q (omega (arith, length-append t a)))) };
-    }
+whole e = e.on [] (record { all = refl; ends = refl })
 
 -- one byte more: it is there, or not
-module _ {x : List ℕ} {m : Match} {b f : ℕ} where
-  pub hit : m.same ≡ true → m.far < length x → get_or x m.far 0 ≡ b → f ≡ m.far + 1 → Extends (b ∷ []) x m (record { far = f; same = true })
-  hit e l q n =
+module _ {x : List ℕ} {at b : ℕ} where
+  pub hit : {p : ℕ} → at < length x → get_or x at 0 ≡ b → p ≡ at + 1 → Extends (b ∷ []) x at (Ok p)
+  hit l q n =
       record {
         on = λ t h.
-            let a = all_there t x m h e in
-            let k : m.far ≡ length t = h.far ∙ a in
-            let z = all-and t x b a (rw k at l) (rw k at q) in
-            record { far = omega arith; same = sym (eq-eqb (common (t ++ (b ∷ [])) x) (length (t ++ (b ∷ []))) (omega (arith, length-append t (b ∷ [])))) };
+            let k = h.ends in
+            let z = all-and t x b h.all (rw k at l) (rw k at q) in
+            record { all = omega (arith, length-append t (b ∷ [])); ends = omega (arith, length-append t (b ∷ [])) };
       }
 
-  pub miss : m.same ≡ true → (m.far < length x → get_or x m.far 0 ≡ b → ⊥) → f ≡ m.far → Extends (b ∷ []) x m (record { far = f; same = false })
-  miss e q n =
+  pub miss : (at < length x → get_or x at 0 ≡ b → ⊥) → Extends (b ∷ []) x at (Err at)
+  miss q =
       record {
         on = λ t h.
-            let a = all_there t x m h e in
-            let k : m.far ≡ length t = h.far ∙ a in
-            let z = all-not t x b a (rw k at q) in
-            record { far = omega arith; same = sym (ne_eqb (common (t ++ (b ∷ [])) x) (length (t ++ (b ∷ []))) (λ w. omega (arith, length-append t (b ∷ [])))) };
+            let k = h.ends in
+            let z = all-not t x b h.all (rw k at q) in
+            record { less = omega (arith, length-append t (b ∷ [])); reach = omega arith };
       }

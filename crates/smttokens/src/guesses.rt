@@ -1,41 +1,28 @@
 // What the choice probably is, from a few bytes: nothing is promised of it.
-use crate::Match;
 use smtgrammar::Line;
 
 // The byte at a place, 0 past the end.
 fn byte(x: &[u8], i: usize) -> u8 {
-    if i < x.len() { x[i] } else { 0 }
+    x.get(i).copied().unwrap_or(0)
 }
 
 // A digit at the front, 10 for any other byte.
 fn digit(x: &[u8]) -> usize {
-    let b = byte(x, 0);
-    if b < 48 {
-        return 10;
+    match byte(x, 0) {
+        b @ b'0'..=b'9' => (b - b'0') as usize,
+        _ => 10,
     }
-    if 57 < b {
-        return 10;
-    }
-    (b - 48) as usize
 }
 
 // The number that five digits from a place on mean.
 fn number(x: &[u8], at: usize) -> usize {
     let mut v = 0;
-    let mut i = at;
-    while i < x.len() {
+    for i in at..x.len() {
         let b = x[i];
-        if b < 48 {
+        if !b.is_ascii_digit() || 9999 < v {
             return v;
         }
-        if 57 < b {
-            return v;
-        }
-        if 9999 < v {
-            return v;
-        }
-        v = v * 10 + (b - 48) as usize;
-        i += 1;
+        v = v * 10 + (b - b'0') as usize;
     }
     v
 }
@@ -43,15 +30,15 @@ fn number(x: &[u8], at: usize) -> usize {
 // A line, by its third letter.
 fn line(x: &[u8]) -> usize {
     match byte(x, 3) {
-        99 => 0,
-        102 => 1,
+        b'c' => 0,
+        b'f' => 1,
         _ => 2,
     }
 }
 
 // A sort: a width, or a format by its exponent bits.
 fn sort(x: &[u8]) -> usize {
-    if byte(x, 6) == 66 {
+    if byte(x, 6) == b'B' {
         return number(x, 13);
     }
     match number(x, 20) {
@@ -62,46 +49,31 @@ fn sort(x: &[u8]) -> usize {
 }
 
 // What opens a term: the first text that is there.
-fn opening_of(x: &[u8], s: usize) -> usize {
-    let mut k = 6;
-    while k < 28 {
-        let m = crate::texts::opening(x, Match { far: 0, same: true }, k, s);
-        if m.same {
-            return k;
-        }
-        k += 1;
-    }
-    k
+fn opening(x: &[u8], s: usize) -> usize {
+    (6..28)
+        .find(|k| crate::texts::opening(x, 0, *k, s).is_ok())
+        .unwrap_or(28)
 }
 
 // An operand by its number, or a word.
 fn operand(x: &[u8]) -> usize {
-    match byte(x, 0) {
-        35 => 65536,
-        82 => rounding(x),
+    match (byte(x, 0), byte(x, 1)) {
+        (b'#', _) => 65536,
+        (b'R', b'N') => 65537,
+        (b'R', _) => 65538,
         _ => number(x, 1),
     }
 }
 
-// RNE or RTZ.
-fn rounding(x: &[u8]) -> usize {
-    if byte(x, 1) == 78 { 65537 } else { 65538 }
-}
-
 // The choice at the line's stage.
-pub(crate) fn guess(x: &[u8], l: Line) -> usize {
-    let stage = l.stage;
-    match stage {
+pub(crate) fn guess(x: &[u8], l: &Line) -> usize {
+    match l.stage {
         0 => line(x),
-        4 => digit(x),
+        4 | 14 => digit(x),
         5 => number(x, 13),
         7 => sort(x),
-        8 => opening_of(x, l.sort),
-        9 => operand(x),
-        10 => operand(x),
-        11 => operand(x),
-        12 => operand(x),
-        14 => digit(x),
+        8 => opening(x, l.sort),
+        9..=12 => operand(x),
         15 => 0,
         _ => number(x, 0),
     }

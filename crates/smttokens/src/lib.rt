@@ -9,132 +9,78 @@ ghost use Rattle.std.specs.Prelude.{◌≡◌, ◌<◌};
 ghost use Rattle.smtgrammar.specs.Allowed.{ok_at};
 ghost use Rattle.smtgrammar.specs.Tokens.{text_at};
 ghost use Rattle.smtgrammar.specs.Grammar.{size_at, Choice};
-ghost use Rattle.smttokens.specs.Taken.{shown, state, Tried, Right, Takes};
+ghost use Rattle.smtchoices.specs.Seen.{seen};
+ghost use Rattle.smttokens.specs.Taken.{state, Tried, Right, Takes};
 
-use smtgrammar::{Line, Place};
+use smtchoices::State;
 
-// How much of a text stands at the front of another, and whether all of it does.
+// A choice, and how many bytes its text has.
 #[derive(Clone, Copy)]
-pub struct Match {
-    pub far: usize,
-    pub same: bool,
-}
-
-// What one choice makes of the search: it is there as a whole, or how far the choices so far reach.
-#[derive(Clone, Copy)]
-pub struct Try {
-    pub done: bool,
-    pub far: usize,
-}
-
-// A choice and how many bytes it took, or the place where none can follow.
-#[derive(Clone, Copy)]
-pub enum Token {
-    Took(usize, usize),
-    Stop(usize),
+pub struct Token {
+    pub choice: usize,
+    pub length: usize,
 }
 
 // How many choices a stage has.
+#[tactic(auto, unfolding(smtgrammar::specs::Grammar::size_at))]
 pub fn size_at(stage: usize) -> usize
     ensures { result ≡ size_at stage }
 {
     match stage {
         0 => 3,
-        1 => 65535,
+        1 | 3 | 6 => 65535,
         2 => 27,
-        3 => 65535,
         4 => 11,
         5 => 81,
-        6 => 65535,
         7 => 3905,
         8 => 28,
         9 => 65539,
+        10..=12 => 65536,
         13 => 80,
         14 => 2,
-        _ => if stage <= 12 { 65536 } else { 1 },
+        _ => 1,
     }
 }
 
-// One choice: whether it is allowed, and how much of its text is there.
-fn tried(
-    x: &[u8],
-    kinds: &[u8],
-    fa: &[u64],
-    sorts: &[u16],
-    lowest: &[u16],
-    p: Place,
-    l: Line,
-    v: usize,
-    far: usize,
-) -> Try
-    requires { v < size_at l.stage }
-    ensures { Tried (ok_at (shown kinds.now fa.now sorts.now lowest.now) p l v) (text_at (shown kinds.now fa.now sorts.now lowest.now) p l v) x.now far result }
+// One choice: how many bytes its text has, where it is allowed and all of it is there; else how far the texts reach so far.
+fn tried(x: &[u8], s: &State, v: usize, far: usize) -> Result<usize, usize>
+    requires { v < size_at s.now.line.stage }
+    ensures { Tried (ok_at (seen s.now.tables) s.now.place s.now.line v) (text_at (seen s.now.tables) s.now.place s.now.line v) x.now far result }
 {
-    if smtchoices::ok_at(kinds, sorts, lowest, p, l, v) {
-        let m = texts::text_at(x, kinds, fa, sorts, p, l, v);
-        let f = m.far;
-        if m.same {
-            return Try { done: true, far: f };
-        }
-        if far <= f {
-            return Try {
-                done: false,
-                far: f,
-            };
-        }
-        return Try { done: false, far };
+    if !smtchoices::ok_at(s, v) {
+        return Err(far);
     }
-    Try { done: false, far }
+    match texts::text_at(x, s, v) {
+        Ok(n) => Ok(n),
+        Err(f) => Err(far.max(f)),
+    }
 }
 
 // All choices, one after the other, up to one that is there.
-fn seek(
-    x: &[u8],
-    kinds: &[u8],
-    fa: &[u64],
-    sorts: &[u16],
-    lowest: &[u16],
-    p: Place,
-    l: Line,
-    n: usize,
-) -> Token
-    requires { n ≡ size_at l.stage }
-    ensures { Right (Choice (state (shown kinds.now fa.now sorts.now lowest.now) p l)) x.now result }
+fn seek(x: &[u8], s: &State, n: usize) -> Result<Token, usize>
+    requires { n ≡ size_at s.now.line.stage }
+    ensures { Right (Choice (state (seen s.now.tables) s.now.place s.now.line)) x.now result }
 {
     let mut far = 0;
-    let mut i = 0;
-    while i < n {
-        let t = tried(x, kinds, fa, sorts, lowest, p, l, i, far);
-        let f = t.far;
-        if t.done {
-            return Token::Took(i, f);
+    for choice in 0..n {
+        match tried(x, s, choice, far) {
+            Ok(length) => return Ok(Token { choice, length }),
+            Err(f) => far = f,
         }
-        far = f;
-        i += 1;
     }
-    Token::Stop(far)
+    Err(far)
 }
 
-// The token at the front: the guessed choice at once, and a search only where that is not there.
-pub fn take(
-    x: &[u8],
-    kinds: &[u8],
-    fa: &[u64],
-    sorts: &[u16],
-    lowest: &[u16],
-    p: Place,
-    l: Line,
-) -> Token
-    ensures { Takes kinds.now fa.now sorts.now lowest.now p l x.now result }
+// The token at the front, or the place from which none can follow: the guessed choice at once, and a search only where that is not there.
+pub fn take(x: &[u8], s: &State) -> Result<Token, usize>
+    ensures { Takes s.now x.now result }
 {
-    let n = size_at(l.stage);
-    let g = guesses::guess(x, l);
-    if g < n {
-        let t = tried(x, kinds, fa, sorts, lowest, p, l, g, 0);
-        let f = t.far;
-        if t.done {
-            return Token::Took(g, f);
-        }
+    let n = size_at(s.line.stage);
+    let choice = guesses::guess(x, &s.line);
+    if choice < n
+        && let Ok(length) = tried(x, s, choice, 0)
+    {
+        return Ok(Token { choice, length });
     }
-    seek(x, kinds, fa, sorts, lowest, p, l, n)
+    seek(x, s, n)
 }

@@ -2,17 +2,18 @@ use Rattle.std.proofs.Common.{arith}
 use Rattle.smtgrammar.specs.Allowed.{ok_at}
 use Rattle.smtgrammar.specs.Grammar.{size_at}
 use Rattle.smtgrammar.specs.Tokens.{text_at}
-use Rattle.smttokens.specs.Taken.{shown, sought-start, sought-on, sought-hit, sought-end}
+use Rattle.smtchoices.specs.Seen.{seen}
+use Rattle.smttokens.specs.Taken.{sought-start, sought-on, sought-hit, sought-end}
 use Rattle.smttokens.proofs.seek.Goals as goal
 
-pub loop-i-init : goal.loop-i-init
-loop-i-init c = let a = c.args in (omega arith, sought-start (ok_at (shown a.kinds.now a.fa.now a.sorts.now a.lowest.now) a.p a.l) (text_at (shown a.kinds.now a.fa.now a.sorts.now a.lowest.now) a.p a.l) a.x.now)
+pub loop-choice-init : goal.loop-choice-init
+loop-choice-init c = let s = c.args.s.now in sought-start (ok_at (seen s.tables) s.place s.line) (text_at (seen s.tables) s.place s.line) c.args.x.now
 
-pub returns-then-t : goal.returns-then-t
-returns-then-t c = let a = c.args in let l = c.loop-i in let k = c.requires in let h = c.loop-i-test.true in sought-hit (ok_at (shown a.kinds.now a.fa.now a.sorts.now a.lowest.now) a.p a.l) (text_at (shown a.kinds.now a.fa.now a.sorts.now a.lowest.now) a.p a.l) a.x.now l.i l.far _ c.tried-t.ensures (size_at a.l.stage) (omega arith) c.if-t.true
+pub returns-in-Ok : goal.returns-in-Ok
+returns-in-Ok c = let s = c.args.s.now in let l = c.loop-choice in sought-hit (ok_at (seen s.tables) s.place s.line) (text_at (seen s.tables) s.place s.line) c.args.x.now l.choice l.far (size_at s.line.stage) _ (omega arith) c.in-Ok.ensures
 
-pub loop-i-preserved : goal.loop-i-preserved
-loop-i-preserved c = let a = c.args in let l = c.loop-i in (omega arith, sought-on (ok_at (shown a.kinds.now a.fa.now a.sorts.now a.lowest.now) a.p a.l) (text_at (shown a.kinds.now a.fa.now a.sorts.now a.lowest.now) a.p a.l) a.x.now l.i l.far _ c.tried-t.ensures l.invariant.1 c.if-t.false)
+pub loop-choice-preserved : goal.loop-choice-preserved
+loop-choice-preserved c = let s = c.args.s.now in let l = c.loop-choice in sought-on (ok_at (seen s.tables) s.place s.line) (text_at (seen s.tables) s.place s.line) c.args.x.now l.choice l.far _ c.in-Err.ensures l.invariant
 
 pub returns : goal.returns
-returns c = let a = c.args in let l = c.loop-i in let k = c.requires in let h = c.loop-i-test.false in sought-end (ok_at (shown a.kinds.now a.fa.now a.sorts.now a.lowest.now) a.p a.l) (text_at (shown a.kinds.now a.fa.now a.sorts.now a.lowest.now) a.p a.l) a.x.now (size_at a.l.stage) l.i l.far l.invariant.1 (omega arith)
+returns c = let s = c.args.s.now in let l = c.loop-choice in sought-end (ok_at (seen s.tables) s.place s.line) (text_at (seen s.tables) s.place s.line) c.args.x.now (size_at s.line.stage) l.choice l.far l.invariant (omega arith)

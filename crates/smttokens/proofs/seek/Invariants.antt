@@ -1,11 +1,8 @@
-use Rattle.std.proofs.Common.{◌≤◌, ◌-◌}
 use Rattle.smtgrammar.specs.Allowed.{ok_at}
 use Rattle.smtgrammar.specs.Tokens.{text_at}
-use Rattle.smttokens.specs.Taken.{shown, Sought}
+use Rattle.smtchoices.specs.Seen.{seen}
+use Rattle.smttokens.specs.Taken.{Sought}
 use Rattle.smttokens.proofs.seek.Given as goal
 
-abbrev pub invariant-loop-i : goal.invariant-loop-i
-invariant-loop-i vars = (vars.i ≤ vars.n) × Sought (ok_at (shown vars.kinds vars.fa vars.sorts vars.lowest) vars.p vars.l) (text_at (shown vars.kinds vars.fa vars.sorts vars.lowest) vars.p vars.l) vars.x vars.i vars.far
-
-abbrev pub decreases-loop-i : goal.decreases-loop-i
-decreases-loop-i l = l.n - l.i
+abbrev pub invariant-loop-choice : goal.invariant-loop-choice
+invariant-loop-choice l = Sought (ok_at (seen l.s.tables) l.s.place l.s.line) (text_at (seen l.s.tables) l.s.place l.s.line) l.x l.choice l.far

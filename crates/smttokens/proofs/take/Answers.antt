@@ -2,11 +2,16 @@ use Rattle.std.proofs.Common.{arith}
 use Rattle.smtgrammar.specs.Allowed.{ok_at}
 use Rattle.smtgrammar.specs.Grammar.{size_at}
 use Rattle.smtgrammar.specs.Tokens.{text_at}
-use Rattle.smttokens.specs.Taken.{shown, takes, sought-hit}
+use Rattle.smtchoices.specs.Seen.{seen}
+use Rattle.smttokens.specs.Taken.{takes, sought-hit}
 use Rattle.smttokens.proofs.take.Goals as goal
 
-pub returns-then-t : goal.returns-then-t
-returns-then-t c = let a = c.args in let k = c.size_at-n.ensures in let h = c.if-g-n.true in takes (sought-hit (ok_at (shown a.kinds.now a.fa.now a.sorts.now a.lowest.now) a.p a.l) (text_at (shown a.kinds.now a.fa.now a.sorts.now a.lowest.now) a.p a.l) a.x.now c.guess-g.result 0 _ c.tried-t.ensures (size_at a.l.stage) (omega arith) c.if-t.true)
-
 pub returns : goal.returns
-returns c = takes c.seek.ensures
+returns c =
+    let s = c.args.s.now in
+    let k = c.size_at-n.ensures in
+    let h = c.if-choice-n.true in
+    takes (sought-hit (ok_at (seen s.tables) s.place s.line) (text_at (seen s.tables) s.place s.line) c.args.x.now c.guess-choice.result 0 (size_at s.line.stage) _ (omega arith) c.in-Ok.ensures)
+
+pub returns-2 : goal.returns-2
+returns-2 c = takes c.seek.ensures

@@ -1,8 +1,8 @@
-use Rattle.std.proofs.Common.{eq-eqb}
-use Rattle.smttokens.specs.Matches.{then}
-use Rattle.writing.specs.Bytes.{bytes}
+use Rattle.std.proofs.lemmas.Result.{err_from_is_err_and}
+use Rattle.smttokens.specs.Matches.{stops}
 use Rattle.smttokens.proofs.texts.bit.Goals as goal
 
-pub returns-then-left-eq1 : goal.returns-then-left-eq1
-unfolding bytes
-returns-then-left-eq1 c = rw (eq-eqb _ _ c.if-left-eq1.true) (then c.one-p.ensures c.all.ensures)
+pub returns-in_err-p : goal.returns-in_err-p
+returns-in_err-p c =
+    let e = err_from_is_err_and c.from_residual.result c.from_residual.ensures.1 in
+    rw (e.1, e.2) (stops _ c.in_err-p.ensures)
