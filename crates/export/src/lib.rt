@@ -23,11 +23,7 @@ pub(crate) fn lay(out: &mut [u64], w: &[u64])
     requires { length w.now ≤ length out.old }
     ensures { out.new ≡ laid out.old 0 w.now }
 {
-    let mut i = 0;
-    while i < w.len() {
-        out[i] = w[i];
-        i += 1;
-    }
+    out[..w.len()].copy_from_slice(w);
 }
 
 // Classifies the instruction in bytes that are there, where there is room to tell.

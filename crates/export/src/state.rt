@@ -10,15 +10,7 @@ pub(crate) fn small(w: &[u64]) -> bool
     requires { 13 ≤ length w.now }
     ensures { result ≡ all small_is (take 13 w.now) }
 {
-    let mut i = 0;
-    while i < 13 {
-        if w[i] < 4294967296 {
-            i += 1;
-        } else {
-            return false;
-        }
-    }
-    true
+    w[..13].iter().all(|w| *w < 4294967296)
 }
 
 fn low(w: u64) -> u32

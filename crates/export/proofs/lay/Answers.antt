@@ -1,11 +1,6 @@
-use Rattle.std.proofs.Common.{rules, refl, zero-add, arith, length-set}
-use Rattle.export.proofs.Places.{laid_none, laid_on}
+use Rattle.std.proofs.Common.{arith}
+use Rattle.export.proofs.Places.{laid_over}
 use Rattle.export.proofs.lay.Goals as goal
 
-pub loop-i-init : goal.loop-i-init
-loop-i-init c = (search rules, refl, laid_none _ _)
-
-pub loop-i-preserved : goal.loop-i-preserved
-loop-i-preserved c =
-    let l = c.loop-i in
-    (search rules, simp length-set l.invariant.1, rw zero-add at (laid_on c.args.out.now l.out c.args.w.now 0 l.i (omega arith) l.invariant.2))
+pub returns : goal.returns
+returns c = rw c.copy_from_slice.ensures.after (laid_over _ _ 0 _ (omega arith) (omega arith))
