@@ -8,7 +8,7 @@ ghost use Rattle.smtgrammar.specs.Allowed.{format_of, line_ok, declared_ok, read
 ghost use Rattle.smtchoices.specs.Seen.{seen};
 
 use present::suits;
-use smtgrammar::{Line, Place};
+use smtgrammar::{LIMIT, Line, Place, part, stage};
 
 // The nodes so far, as columns of any lengths: kind, first field and sort by number, and by sort the lowest number that has it.
 #[derive(Clone, Copy)]
@@ -54,15 +54,15 @@ pub fn format_of(w: usize) -> usize
 
 #[tactic(auto, unfolding(smtgrammar::specs::Allowed::line_ok, smtgrammar::specs::Allowed::kind_ok, smtgrammar::specs::Allowed::number_ok, smtgrammar::specs::Allowed::digit_ok, smtgrammar::specs::Allowed::width_ok, smtgrammar::specs::Allowed::defined_ok, smtgrammar::specs::Allowed::sort_ok, smtgrammar::specs::Allowed::opening_ok, smtgrammar::specs::Allowed::sort_taken, smtgrammar::specs::Allowed::word_ok, smtgrammar::specs::Allowed::first_ok, smtgrammar::specs::Allowed::place_ok, smtgrammar::specs::Allowed::ok_at))]
 impl State<'_> {
-    // 0 declares, 1 defines, 2 asserts.
+    // The part that a line is of.
     fn line_ok(&self, v: usize) -> bool
         ensures { result ≡ line_ok (seen self.now.tables) self.now.place self.now.line v }
     {
         let p = &self.place;
         match v {
-            0 => p.part == 0 && p.top < 65535,
-            1 => p.part <= 1 && p.gap < 65535,
-            _ => p.owed == 65535 && p.due < 65535,
+            part::DECLARES => p.part == part::DECLARES && p.top < LIMIT,
+            part::DEFINES => p.part <= part::DEFINES && p.gap < LIMIT,
+            _ => p.owed == LIMIT && p.due < LIMIT,
         }
     }
 
@@ -70,7 +70,7 @@ impl State<'_> {
     fn declared_ok(&self, n: usize) -> bool
         ensures { result ≡ declared_ok (seen self.now.tables) self.now.place self.now.line n }
     {
-        self.place.top <= n && n < 65535
+        self.place.top <= n && n < LIMIT
     }
 
     // Node m can become a float that an FpToIeeeBv reads.
@@ -151,7 +151,7 @@ impl State<'_> {
         ensures { result ≡ defined_ok (seen self.now.tables) self.now.place self.now.line n }
     {
         let p = &self.place;
-        let open = p.gap <= n && n < 65535 && kind_at(self.tables.kinds, n) == 0;
+        let open = p.gap <= n && n < LIMIT && kind_at(self.tables.kinds, n) == 0;
         open && (n < p.owed || n == p.owed && self.tables.source(sort_at(self.tables.sorts, n), n))
     }
 
@@ -161,7 +161,7 @@ impl State<'_> {
     {
         let p = &self.place;
         let f = sort_at(self.tables.sorts, p.owed);
-        p.owed == 65535 || self.tables.source(f, p.owed) || self.line.after < p.owed || suits(f, s)
+        p.owed == LIMIT || self.tables.source(f, p.owed) || self.line.after < p.owed || suits(f, s)
     }
 
     // The sort of a defined node.
@@ -308,14 +308,14 @@ impl State<'_> {
         ensures { result ≡ defining_ok (seen self.now.tables) self.now.place self.now.line v }
     {
         match self.line.stage {
-            6 => self.defined_ok(v),
-            7 => self.sort_ok(v),
-            8 => self.opening_ok(v),
-            9 => self.first_ok(v),
-            10 => self.operand_ok(0, v),
-            11 => self.operand_ok(1, v),
-            12 => self.operand_ok(2, v),
-            13 => self.place_ok(v),
+            stage::DEFINED => self.defined_ok(v),
+            stage::SORT => self.sort_ok(v),
+            stage::OPENING => self.opening_ok(v),
+            stage::FIRST => self.first_ok(v),
+            stage::OPERAND_0 => self.operand_ok(0, v),
+            stage::OPERAND_1 => self.operand_ok(1, v),
+            stage::OPERAND_2 => self.operand_ok(2, v),
+            stage::PLACES => self.place_ok(v),
             _ => true,
         }
     }
@@ -327,12 +327,12 @@ pub fn ok_at(s: &State, v: usize) -> bool
     ensures { result ≡ ok_at (seen s.now.tables) s.now.place s.now.line v }
 {
     match s.line.stage {
-        0 => s.line_ok(v),
-        1 => s.declared_ok(v),
-        2 => s.kind_ok(v),
-        3 => s.number_ok(v),
-        4 => s.digit_ok(v),
-        5 => s.width_ok(v),
+        stage::LINE => s.line_ok(v),
+        stage::DECLARED => s.declared_ok(v),
+        stage::KIND => s.kind_ok(v),
+        stage::NUMBER => s.number_ok(v),
+        stage::DIGIT => s.digit_ok(v),
+        stage::WIDTH => s.width_ok(v),
         _ => s.defining_ok(v),
     }
 }

@@ -3,27 +3,28 @@ ghost use Rattle.std.specs.Prelude.{◌≡◌};
 ghost use Rattle.smtgrammar.specs.Present.{below, some_float, some_word, some_from, joins, source, suits};
 
 use crate::Tables;
+use smtgrammar::LIMIT;
 
 impl Tables<'_> {
     // Some node below n has the sort s.
     pub(crate) fn below(&self, s: usize, n: usize) -> bool
         ensures { result ≡ below self.now.lowest.now s n }
     {
-        (self.lowest.get(s).copied().unwrap_or(65535) as usize) < n
+        self.lowest.get(s).map_or(LIMIT, |m| *m as usize) < n
     }
 
     // .. that of a float.
     pub(crate) fn some_float(&self, n: usize) -> bool
         ensures { result ≡ some_float self.now.lowest.now n }
     {
-        self.below(2072, n) | self.below(2869, n) | self.below(3904, n)
+        self.below(2072, n) || self.below(2869, n) || self.below(3904, n)
     }
 
     // .. that of a whole number.
     pub(crate) fn some_word(&self, n: usize) -> bool
         ensures { result ≡ some_word self.now.lowest.now n }
     {
-        self.below(16, n) | self.below(32, n) | self.below(64, n)
+        self.below(16, n) || self.below(32, n) || self.below(64, n)
     }
 
     // .. a width of u or more.
@@ -37,7 +38,7 @@ impl Tables<'_> {
     pub(crate) fn joins(&self, s: usize, n: usize) -> bool
         ensures { result ≡ joins self.now.lowest.now s n }
     {
-        (1..s).any(|w| self.below(w, n) & self.below(s - w, n))
+        (1..s).any(|w| self.below(w, n) && self.below(s - w, n))
     }
 
     // A float of format f can be made of a node below n.
@@ -45,7 +46,7 @@ impl Tables<'_> {
         ensures { result ≡ source self.now.lowest.now f n }
     {
         let w = sorts::pattern_width(f as u64) as usize;
-        self.below(w, n) | self.some_float(n) | ((f == 3904) & self.some_word(n))
+        self.below(w, n) || self.some_float(n) || f == 3904 && self.some_word(n)
     }
 }
 
@@ -54,5 +55,5 @@ pub(crate) fn suits(f: usize, s: usize) -> bool
     ensures { result ≡ suits f s }
 {
     let w = sorts::pattern_width(f as u64) as usize;
-    (s == w) | sorts::is_float(s as u64) | ((f == 3904) & sorts::is_word(s as u64))
+    s == w || sorts::is_float(s as u64) || f == 3904 && sorts::is_word(s as u64)
 }

@@ -1,19 +1,25 @@
 // The grammar that the reader of SMT-LIB text follows: what is known in the middle of a text, definitions and laws.
 #![tactic(auto)]
 
+pub mod part;
+pub mod stage;
+
+// Numbers of nodes are below the limit, which stands for 'none' as well.
+pub const LIMIT: usize = 65535;
+
 // Between two lines.
 #[derive(Clone, Copy)]
 pub struct Place {
-    // The part of the text that has begun: 0 declares, 1 defines, 2 asserts.
+    // The part of the text that has begun.
     pub part: usize,
     // The first number behind the declared ones.
     pub top: usize,
     // The lowest number that can still be defined, and the next one that is not declared.
     pub gap: usize,
     pub next: usize,
-    // The lowest number that is obliged to be a float and is not there yet; 65,535 for none.
+    // The lowest number that is obliged to be a float and is not there yet, or none.
     pub owed: usize,
-    // The next FpToIeeeBv to assert; 65,535 for none.
+    // The next FpToIeeeBv to assert, or none.
     pub due: usize,
     // How many nodes there are.
     pub count: usize,
@@ -22,12 +28,12 @@ pub struct Place {
 impl Place {
     // Nothing has been read.
     pub const START: Place = Place {
-        part: 0,
+        part: part::DECLARES,
         top: 0,
         gap: 0,
         next: 1,
-        owed: 65535,
-        due: 65535,
+        owed: LIMIT,
+        due: LIMIT,
         count: 0,
     };
 }
@@ -55,7 +61,7 @@ pub struct Line {
 impl Line {
     // No line has begun.
     pub const NONE: Line = Line {
-        stage: 0,
+        stage: stage::LINE,
         node: 0,
         kind: 0,
         sort: 0,

@@ -39,8 +39,8 @@ module _ (t : Tables) {x : List ℕ} {n : ℕ} (h : Read x t n) where
         let z : 0 + length (rows_below t 65535) ≡ 4 * n = omega arith in
         rw z at (sets-eq (rows_below t 65535) old 0 (let m = enough (length old) r e l in omega arith))
 
-    pub filled : n ≤ r → {new : List ℕ} (c : ℕ) → Written (bare t) old new c → Rows x old n new
-    filled l c w = record {
+    pub filled : n ≤ r → {new : List ℕ} → Written (bare t) old new → Rows x old n new
+    filled l w = record {
       last = h.last;
       reads = h.reads;
       count = sym h.count;

@@ -2,7 +2,7 @@
 use mathlib.Core.Path.{◌≡◌, refl, sym, ◌∙◌}
 use mathlib.Core.Bool.{Bool, true, false, cond}
 use mathlib.Core.List.{List, [], ◌∷◌, ◌++◌}
-use Prim.Native.Nat.{ℕ, zero, suc, ◌+◌, ◌*◌, ◌/◌, ◌≤◌, ◌<◌, min}
+use Prim.Native.Nat.{ℕ, zero, suc, ◌+◌, ◌*◌, ◌≤◌, ◌<◌, min}
 use native.Mathlib.Numerals.{add-one}
 use native.Mathlib.Omega.{arith}
 use native.Mathlib.Decide.{dec_lt}
@@ -17,7 +17,7 @@ use Rattle.viable.specs.Grammar.{clash}
 use Rattle.needs.specs.Needed.{arity}
 use Rattle.smtreader.specs.Ranks.{Ranks, bare, by_rank, row_of, Fit, Written}
 use Rattle.smtgrammar.specs.Rows.{there, rank_at, ranked, rows_below}
-use Rattle.smtreader.specs.Padded.{pad, padded, get-pad, rank-past, rows-past}
+use Rattle.smtreader.specs.Padded.{pad, padded, get-pad, rows-past}
 use Rattle.smtsound.specs.Nodes.{Node, Nodes}
 use Rattle.smtsound.specs.Tables.{Is, same?}
 
@@ -120,12 +120,8 @@ up_to f n i e past = go (dec_lt n 65535)
     go (yes h) = past (omega arith) (omega arith)
     go (no h) = let z : i ≡ 65535 = omega arith in rw z
 
-pub written : (t : Tables) (l l' : List ℕ) (i at : ℕ) → i ≡ min (length t.kinds) 65535 → l' ≡ sets l 0 (rows_below t i) → at ≡ 4 * rank_at t i
-    → Written t l l' (at / 4)
-written t l l' i at e f g =
-    let n = length t.kinds in
-    let k = up_to (rank_at t) n i e (λ h. rank-past t i h 65535) in
-    record { words = rw (up_to (rows_below t) n i e (λ h. rows-past t i h 65535)) f; count = omega arith }
+pub written : (t : Tables) (l l' : List ℕ) (i : ℕ) → i ≡ min (length t.kinds) 65535 → l' ≡ sets l 0 (rows_below t i) → Written t l l'
+written t l l' i e f = record { words = rw (up_to (rows_below t) (length t.kinds) i e (λ h. rows-past t i h 65535)) f }
 
 -- what is not 0 is an entry
 has-entry : (l : List ℕ) (i : ℕ) → (get_or l i 0 ≡ 0 → ⊥) → i < length l

@@ -1,8 +1,7 @@
 -- What a loop over the tokens keeps: the state is live, sound and counted, and what is left of the text decides for the whole.
-use Rattle.std.specs.Prelude.{◌≡◌, refl, Bool, true, false, List, ◌⊎◌, ℕ, zero, suc, ◌+◌, ◌-◌, ◌≤◌, ◌<◌, length, take, drop}
-use Rattle.std.proofs.Common.{sym, ◌∙◌, inl, inr, ⊎_elim, arith, length-drop, drop_of_length-le, take_all}
-use Rattle.viable.specs.Grammar.{Some, Got, Bad, clash, leads-got, leads-bad}
-use Rattle.viable.specs.Family.{Member}
+use Rattle.std.specs.Prelude.{◌≡◌, refl, Bool, true, false, List, ℕ, ◌+◌, ◌-◌, ◌≤◌, ◌<◌, length, take, drop}
+use Rattle.std.proofs.Common.{⊎_elim, arith, length-drop, drop_of_length-le, take_all}
+use Rattle.viable.specs.Grammar.{Some, Got, Bad, leads-got, leads-bad}
 use Rattle.viable.specs.Runs.{end, Stops, Carries, carries-start, carries-on, token-stops, end-stops, more-stops}
 use Rattle.smtgrammar.specs.State.{State, start}
 use Rattle.smtgrammar.specs.Allowed.{ok_at}
@@ -16,6 +15,7 @@ use Rattle.smtlive.specs.Step.{live-next}
 use Rattle.smtlive.specs.Goes.{live-start, some, goes, token-goes}
 use Rattle.smtsound.specs.Lines.{Sound}
 use Rattle.smtsound.specs.Steps.{kept_on, sound-start}
+use Rattle.smttokens.specs.Taken.{decided}
 use Rattle.smtreader.specs.Counted.{Counted, counted_next, counted_start}
 
 abbrev pub stepped : State → ℕ → State
@@ -33,34 +33,6 @@ held_start x = record { live = live-start; sound = sound-start; counted = counte
 -- what is left of a text, as a part of it
 pub part : (x : List ℕ) (at : ℕ) → take (length x - at) (drop at x) ≡ drop at x
 part x at = take_all (length x - at) (drop at x) (omega (arith, length-drop at x))
-
--- some text of a family is allowed, or none
-decided : (n : ℕ) (ok : ℕ → Bool) (text : ℕ → List ℕ) → Some (Member n ok text) ⊎ (Some (Member n ok text) → ⊥)
-decided zero ok text = inr (λ s. let b = s.is.below in omega arith)
-decided (suc n) ok text = go (ok n) refl (decided n ok text)
-  where
-    go : (b : Bool) → ok n ≡ b → Some (Member n ok text) ⊎ (Some (Member n ok text) → ⊥) → Some (Member (suc n) ok text) ⊎ (Some (Member (suc n) ok text) → ⊥)
-    go true e d = inl (record { text = text n; value = n; is = record { below = omega arith; allowed = e; is = refl } })
-    go false e (inl s) =
-        let b = s.is.below in
-        inl (record { text = s.text; value = s.value; is = record { below = omega arith; allowed = s.is.allowed; is = s.is.is } })
-    go false e (inr none) = inr (λ s. none (lower s))
-      where
-        lower : Some (Member (suc n) ok text) → Some (Member n ok text)
-        lower s =
-            record {
-              text = s.text;
-              value = s.value;
-              is =
-                  record {
-                    below =
-                        let b = s.is.below in
-                        let d : s.value ≡ n → ⊥ = λ z. clash (sym e ∙ (rw z at s.is.allowed)) in
-                        omega arith;
-                    allowed = s.is.allowed;
-                    is = s.is.is;
-                  };
-            }
 
 module _ {x : List ℕ} {σ : State} {at : ℕ} (h : Held x σ at) where
   -- a token that is there

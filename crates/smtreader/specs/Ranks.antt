@@ -32,6 +32,5 @@ pub record Fit (t : Tables) (m long : ℕ) : Type 0 where
   pub three : (i : ℕ) → Is t i → 3 ≤ arity (get_or t.kinds i 0) → get_or t.field_c i 0 < m
 
 -- the rows of all nodes that are there stand at the front
-pub record Written (t : Tables) (l l' : List ℕ) (r : ℕ) : Type 0 where
+pub record Written (t : Tables) (l l' : List ℕ) : Type 0 where
   pub words : l' ≡ sets l 0 (rows_below t 65535)
-  pub count : r ≡ rank_at t 65535

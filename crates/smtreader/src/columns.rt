@@ -4,6 +4,7 @@ ghost use Rattle.smtgrammar.specs.Next.{gap_from, owed_from, due_from, entered};
 ghost use Rattle.smtreader.specs.Inside.{tables_of, Rowed};
 
 use smtchoices::{kind_at, sort_at};
+use smtgrammar::LIMIT;
 
 // By number the kind, the three fields and the sort; by sort the lowest number that has it.
 #[derive(Drop)]
@@ -22,9 +23,9 @@ impl Columns<'_> {
     pub(crate) fn gap_from(&self, i: usize) -> usize
         ensures { result ≡ gap_from (tables_of self.now) i }
     {
-        (i..65535)
+        (i..LIMIT)
             .find(|j| kind_at(self.kinds, *j) == 0)
-            .unwrap_or(65535)
+            .unwrap_or(LIMIT)
     }
 
     // .. that is obliged and not there yet.
@@ -33,7 +34,7 @@ impl Columns<'_> {
     {
         (i..top)
             .find(|j| kind_at(self.kinds, *j) == 0 && sort_at(self.sorts, *j) != 0)
-            .unwrap_or(65535)
+            .unwrap_or(LIMIT)
     }
 
     // .. that is an FpToIeeeBv.
@@ -42,7 +43,7 @@ impl Columns<'_> {
     {
         (i..top)
             .find(|j| kind_at(self.kinds, *j) == 26)
-            .unwrap_or(65535)
+            .unwrap_or(LIMIT)
     }
 
     // Node n gets its row and its sort.

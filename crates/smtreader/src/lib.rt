@@ -14,7 +14,7 @@ ghost use Rattle.smtreader.specs.Text.{ReadsText, TriesText};
 
 use columns::Columns;
 use next::Reader;
-use smtgrammar::{Line, Place};
+use smtgrammar::{LIMIT, Line, Place, stage};
 
 // Why no nodes are read.
 #[derive(Clone, Copy)]
@@ -31,7 +31,7 @@ impl Reader<'_> {
         ensures { result ≡ done (state_of self.now) }
     {
         let p = &self.place;
-        self.line.stage == 0 && 1 <= p.count && p.owed == 65535 && p.due == 65535
+        self.line.stage == stage::LINE && 1 <= p.count && p.owed == LIMIT && p.due == LIMIT
     }
 
     // Runs over the tokens of a text: the number of its nodes, or the place from which none can follow; or a number has no entry in the columns.
@@ -82,7 +82,7 @@ impl Reader<'_> {
 fn room(words: usize) -> usize
     ensures { result ≡ room_of words }
 {
-    (words / 4).min(65535)
+    (words / 4).min(LIMIT)
 }
 
 // Reads a text into nodes, over columns of N entries, where those are enough.
@@ -95,7 +95,7 @@ fn over<const N: usize>(text: &[u8], nodes: &mut [u64]) -> Option<Result<usize, 
     let mut seconds = [0u16; N];
     let mut thirds = [0u16; N];
     let mut sorts = [0u16; N];
-    let mut lowest = [65535u16; 3905];
+    let mut lowest = [LIMIT as u16; 3905];
     let columns = Columns {
         kinds: &mut kinds,
         firsts: &mut firsts,

@@ -7,7 +7,7 @@ ghost use Rattle.smtreader.specs.Inside.{tables_of, state_of, Bounded, Ends, Ter
 
 use crate::columns::Columns;
 use smtchoices::{State, Tables, format_of, sort_at};
-use smtgrammar::{Line, Place};
+use smtgrammar::{LIMIT, Line, Place, part, stage};
 
 // The state in the middle of a text.
 #[derive(Drop)]
@@ -42,9 +42,9 @@ impl Reader<'_> {
     {
         self.place.part = v;
         let stage = match v {
-            0 => 1,
-            1 => 6,
-            _ => 15,
+            part::DECLARES => stage::DECLARED,
+            part::DEFINES => stage::DEFINED,
+            _ => stage::ASSERTED,
         };
         self.line = Line {
             stage,
@@ -60,7 +60,7 @@ impl Reader<'_> {
         let Line { node, kind, a, .. } = self.line;
         self.line = if d == 10 {
             Line {
-                stage: 5,
+                stage: stage::WIDTH,
                 node,
                 kind,
                 a,
@@ -68,7 +68,7 @@ impl Reader<'_> {
             }
         } else {
             Line {
-                stage: 4,
+                stage: stage::DIGIT,
                 node,
                 kind,
                 a: 10 * a + d,
@@ -113,7 +113,7 @@ impl Reader<'_> {
             p.owed
         };
         self.place = Place {
-            part: 1,
+            part: part::DEFINES,
             gap: after,
             owed,
             count: p.count + 1,
@@ -130,9 +130,13 @@ impl Reader<'_> {
         let due = if p.due < p.top {
             self.columns.due_from(p.top, p.due + 1)
         } else {
-            65535
+            LIMIT
         };
-        self.place = Place { part: 2, due, ..p };
+        self.place = Place {
+            part: part::ASSERTS,
+            due,
+            ..p
+        };
         self.line = Line::NONE;
     }
 
@@ -198,7 +202,7 @@ impl Reader<'_> {
         let l = self.line;
         if 2 <= needs::arity(l.kind as u64) {
             self.line = Line {
-                stage: 11,
+                stage: stage::OPERAND_1,
                 a: i,
                 b: 0,
                 ..l
@@ -216,7 +220,7 @@ impl Reader<'_> {
         let l = self.line;
         if l.kind == 13 {
             self.line = Line {
-                stage: 12,
+                stage: stage::OPERAND_2,
                 b: i,
                 ..l
             };
@@ -236,7 +240,7 @@ impl Reader<'_> {
             (_, kind) => (kind, v - 1),
         };
         self.line = Line {
-            stage: 10,
+            stage: stage::OPERAND_0,
             kind,
             a: 0,
             b: 0,
@@ -263,10 +267,10 @@ impl Reader<'_> {
     {
         let l = self.line;
         let (stage, left) = match k {
-            6 => (14, l.sort),
-            14 => (13, l.left),
-            9 | 25 | 16..=19 | 23 | 24 | 27 => (9, l.left),
-            _ => (10, l.left),
+            6 => (stage::BIT, l.sort),
+            14 => (stage::PLACES, l.left),
+            9 | 25 | 16..=19 | 23 | 24 | 27 => (stage::FIRST, l.left),
+            _ => (stage::OPERAND_0, l.left),
         };
         self.line = Line {
             stage,
@@ -291,7 +295,7 @@ impl Reader<'_> {
             self.defined(6, a, b, l.sort);
         } else {
             self.line = Line {
-                stage: 14,
+                stage: stage::BIT,
                 kind: 6,
                 a,
                 b,
@@ -309,32 +313,32 @@ impl Reader<'_> {
     {
         let l = self.line;
         match l.stage {
-            6 => self.line = Line {
-                stage: 7,
+            stage::DEFINED => self.line = Line {
+                stage: stage::SORT,
                 node: v,
                 after: self.columns.gap_from(v + 1),
                 ..Line::NONE
             },
-            7 => self.line = Line {
-                stage: 8,
+            stage::SORT => self.line = Line {
+                stage: stage::OPENING,
                 node: l.node,
                 sort: v,
                 after: l.after,
                 ..Line::NONE
             },
-            8 => self.opened(v),
-            9 => self.first(v),
-            10 => self.operand_0(v),
-            11 => self.operand_1(v),
-            12 => self.termed(l.a, l.b, v),
-            13 => self.line = Line {
-                stage: 10,
+            stage::OPENING => self.opened(v),
+            stage::FIRST => self.first(v),
+            stage::OPERAND_0 => self.operand_0(v),
+            stage::OPERAND_1 => self.operand_1(v),
+            stage::OPERAND_2 => self.termed(l.a, l.b, v),
+            stage::PLACES => self.line = Line {
+                stage: stage::OPERAND_0,
                 a: 0,
                 b: 0,
                 r: v,
                 ..l
             },
-            14 => self.digit(v),
+            stage::BIT => self.digit(v),
             _ => self.asserted(),
         }
     }
@@ -346,27 +350,27 @@ impl Reader<'_> {
     {
         let Line { node, kind, .. } = self.line;
         match self.line.stage {
-            0 => self.begun(v),
-            1 => self.line = Line {
-                stage: 2,
+            stage::LINE => self.begun(v),
+            stage::DECLARED => self.line = Line {
+                stage: stage::KIND,
                 node: v,
                 ..Line::NONE
             },
-            2 => self.line = Line {
-                stage: if v <= 3 { 4 } else { 3 },
+            stage::KIND => self.line = Line {
+                stage: if v <= 3 { stage::DIGIT } else { stage::NUMBER },
                 node,
                 kind: v,
                 ..Line::NONE
             },
-            3 => self.line = Line {
-                stage: 5,
+            stage::NUMBER => self.line = Line {
+                stage: stage::WIDTH,
                 node,
                 kind,
                 a: v,
                 ..Line::NONE
             },
-            4 => self.numeral(v),
-            5 => self.declared(v),
+            stage::DIGIT => self.numeral(v),
+            stage::WIDTH => self.declared(v),
             _ => self.defining(v),
         }
     }
@@ -388,12 +392,12 @@ fn declared_place(p: Place, l: Line) -> Place
         p.next
     };
     Place {
-        part: 0,
+        part: part::DECLARES,
         top: node + 1,
         gap: if node == p.gap { node + 1 } else { p.gap },
         next,
         owed: if reads { p.owed.min(l.a) } else { p.owed },
-        due: if reads && p.due == 65535 { node } else { p.due },
+        due: if reads && p.due == LIMIT { node } else { p.due },
         count: p.count + 1,
     }
 }

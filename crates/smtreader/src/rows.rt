@@ -7,6 +7,7 @@ ghost use Rattle.smtreader.specs.Ranks.{Ranks, bare, row_of, Fit, Written};
 
 use crate::columns::Columns;
 use smtchoices::{kind_at, sort_at};
+use smtgrammar::LIMIT;
 
 // Operand j of a node with so many operands by its rank, any other field as it is.
 fn ranked(ranks: &[u16], arity: u64, j: u64, v: u64) -> u64
@@ -74,27 +75,26 @@ impl Columns<'_> {
         put(nodes, at, k, a, b, c);
     }
 
-    // The rows of all nodes that are there, at the front; how many there are.
-    fn write(&self, nodes: &mut [u64]) -> usize
+    // The rows of all nodes that are there, at the front.
+    fn write(&self, nodes: &mut [u64])
         requires { Ranks (bare (tables_of self.now)) self.now.sorts.now × Fit (bare (tables_of self.now)) (length self.now.sorts.now) (length nodes.old) }
-        ensures { Written (bare (tables_of self.now)) nodes.old nodes.new result }
+        ensures { Written (bare (tables_of self.now)) nodes.old nodes.new }
     {
         let mut at = 0;
-        for i in 0..self.kinds.len().min(65535) {
+        for i in 0..self.kinds.len().min(LIMIT) {
             if self.is_there(i) {
                 self.row(nodes, at, i);
                 at += 4;
             }
         }
-        at / 4
     }
 
     // .. with the ranks worked out beforehand.
-    pub(crate) fn rows(&mut self, nodes: &mut [u64]) -> usize
+    pub(crate) fn rows(&mut self, nodes: &mut [u64])
         requires { (length self.old.sorts.now ≤ 65536) × Fit (bare (tables_of self.old)) (length self.old.sorts.now) (length nodes.old) }
-        ensures { Written (bare (tables_of self.old)) nodes.old nodes.new result }
+        ensures { Written (bare (tables_of self.old)) nodes.old nodes.new }
     {
         self.rank();
-        self.write(nodes)
+        self.write(nodes);
     }
 }

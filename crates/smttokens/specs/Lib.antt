@@ -1,3 +1,2 @@
 pub mod Matches
-pub mod Openings
 pub mod Taken

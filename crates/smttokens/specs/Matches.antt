@@ -1,6 +1,7 @@
 -- How much of a text stands at the front of another, part by part.
 use Rattle.std.specs.Prelude.{◌≡◌, refl, Bool, true, false, cond, List, [], ◌∷◌, ◌++◌, ℕ, suc, ◌+◌, ◌<◌, eqb, length, get_or, Result, Ok, Err}
 use Rattle.std.proofs.Common.{sym, ap, ◌∙◌, append-nil, append_assoc, arith, eq-eqb, ne_eqb, length-append}
+use Rattle.std.specs.Result.{IsErrAnd}
 use Rattle.viable.specs.Family.{common}
 
 -- all of t stands at the front of x, and ends at a place
@@ -65,7 +66,7 @@ module _ {a x : List ℕ} {at : ℕ} where
   then {b} e f = record { on = λ t h. rw (← append_assoc t a b) (f.on (t ++ a) (e.on t h)) }
 
   -- where not all was there, what is behind it does not matter
-  pub stops : (b : List ℕ) {f : ℕ} → Extends a x at (Err f) → Extends (a ++ b) x at (Err f)
+  stops : (b : List ℕ) {f : ℕ} → Extends a x at (Err f) → Extends (a ++ b) x at (Err f)
   stops b {f} e = record { on = λ t h. rw (← append_assoc t a b) (longer (t ++ a) (e.on t h)) }
     where
       longer : (t : List ℕ) → Part t x f → Part (t ++ b) x f
@@ -73,6 +74,11 @@ module _ {a x : List ℕ} {at : ℕ} where
           let k = p.less in
           let z = not-all t x b (λ q. omega arith) in
           record { less = omega (arith, length-append t b); reach = p.reach ∙ sym z }
+
+  -- .. as `?` hands it on
+  pub ended : (b : List ℕ) {f : ℕ} (r : Result ℕ ℕ) → IsErrAnd r (λ (g : ℕ). g ≡ f) → Extends a x at (Err f) → Extends (a ++ b) x at r
+  ended b (Ok n) e h = absurd e
+  ended b (Err g) e h = rw e (stops b h)
 
   -- the same text by another name
   pub also : {b : List ℕ} {r : Result ℕ ℕ} → a ≡ b → Extends a x at r → Extends b x at r

@@ -93,7 +93,7 @@ module _ (ok : ℕ → Bool) (text : ℕ → List ℕ) (x : List ℕ) where
   )
 
 -- some choice of n is allowed, or none
-decided : (n : ℕ) (ok : ℕ → Bool) (text : ℕ → List ℕ) → Some (Member n ok text) ⊎ (Some (Member n ok text) → ⊥)
+pub decided : (n : ℕ) (ok : ℕ → Bool) (text : ℕ → List ℕ) → Some (Member n ok text) ⊎ (Some (Member n ok text) → ⊥)
 decided zero ok text = inr (λ s. let b = s.is.below in omega arith)
 decided (suc n) ok text = go (ok n) refl (decided n ok text)
   where

@@ -1,5 +1,5 @@
 // What the choice probably is, from a few bytes: nothing is promised of it.
-use smtgrammar::Line;
+use smtgrammar::{Line, part, stage};
 
 // The byte at a place, 0 past the end.
 fn byte(x: &[u8], i: usize) -> u8 {
@@ -30,9 +30,9 @@ fn number(x: &[u8], at: usize) -> usize {
 // A line, by its third letter.
 fn line(x: &[u8]) -> usize {
     match byte(x, 3) {
-        b'c' => 0,
-        b'f' => 1,
-        _ => 2,
+        b'c' => part::DECLARES,
+        b'f' => part::DEFINES,
+        _ => part::ASSERTS,
     }
 }
 
@@ -68,13 +68,13 @@ fn operand(x: &[u8]) -> usize {
 // The choice at the line's stage.
 pub(crate) fn guess(x: &[u8], l: &Line) -> usize {
     match l.stage {
-        0 => line(x),
-        4 | 14 => digit(x),
-        5 => number(x, 13),
-        7 => sort(x),
-        8 => opening(x, l.sort),
-        9..=12 => operand(x),
-        15 => 0,
+        stage::LINE => line(x),
+        stage::DIGIT | stage::BIT => digit(x),
+        stage::WIDTH => number(x, 13),
+        stage::SORT => sort(x),
+        stage::OPENING => opening(x, l.sort),
+        stage::FIRST..=stage::OPERAND_2 => operand(x),
+        stage::ASSERTED => 0,
         _ => number(x, 0),
     }
 }

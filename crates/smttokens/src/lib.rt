@@ -13,6 +13,7 @@ ghost use Rattle.smtchoices.specs.Seen.{seen};
 ghost use Rattle.smttokens.specs.Taken.{state, Tried, Right, Takes};
 
 use smtchoices::State;
+use smtgrammar::{LIMIT, stage};
 
 // A choice, and how many bytes its text has.
 #[derive(Clone, Copy)]
@@ -27,17 +28,17 @@ pub fn size_at(stage: usize) -> usize
     ensures { result ≡ size_at stage }
 {
     match stage {
-        0 => 3,
-        1 | 3 | 6 => 65535,
-        2 => 27,
-        4 => 11,
-        5 => 81,
-        7 => 3905,
-        8 => 28,
-        9 => 65539,
-        10..=12 => 65536,
-        13 => 80,
-        14 => 2,
+        stage::LINE => 3,
+        stage::DECLARED | stage::NUMBER | stage::DEFINED => LIMIT,
+        stage::KIND => 27,
+        stage::DIGIT => 11,
+        stage::WIDTH => 81,
+        stage::SORT => 3905,
+        stage::OPENING => 28,
+        stage::FIRST => 65539,
+        stage::OPERAND_0..=stage::OPERAND_2 => 65536,
+        stage::PLACES => 80,
+        stage::BIT => 2,
         _ => 1,
     }
 }

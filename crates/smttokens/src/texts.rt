@@ -1,17 +1,17 @@
 // The text of each choice, held against the front of another.
-#![tactic(auto, unfolding(writing::specs::Bytes::bytes, smttext::specs::Names::name_from, smttext::specs::Names::declared_name, smttext::specs::Names::defined_name, smttext::specs::Names::format_text, smttext::specs::Names::sort_text, smtgrammar::specs::Tokens::line_text, smtgrammar::specs::Tokens::opening_text, smtgrammar::specs::Tokens::mark_text, smtgrammar::specs::Tokens::word_text, smtgrammar::specs::Tokens::node_name, smtgrammar::specs::Tokens::asserted_text, smtgrammar::specs::Tokens::text_at, smtgrammar::specs::Grammar::size_at, crate::specs::Openings::float_opening))]
+#![tactic(auto, unfolding(writing::specs::Bytes::bytes, smttext::specs::Names::name_from, smttext::specs::Names::declared_name, smttext::specs::Names::defined_name, smttext::specs::Names::format_text, smttext::specs::Names::sort_text, smtgrammar::specs::Tokens::line_text, smtgrammar::specs::Tokens::opening_text, smtgrammar::specs::Tokens::mark_text, smtgrammar::specs::Tokens::word_text, smtgrammar::specs::Tokens::node_name, smtgrammar::specs::Tokens::asserted_text, smtgrammar::specs::Tokens::text_at, smtgrammar::specs::Grammar::size_at))]
 
-ghost use Rattle.std.specs.Prelude.{◌≡◌, cond, [], ◌∷◌, ◌++◌, ◌+◌, ◌-◌, ◌<◌, ltb, eqb, get_or};
+ghost use Rattle.std.specs.Prelude.{◌≡◌, cond, [], ◌∷◌, ◌++◌, ◌+◌, ◌-◌, ◌<◌, ◌||◌, leb, ltb, eqb, get_or};
 ghost use Rattle.writing.specs.Bytes.{bytes, decimal};
 ghost use Rattle.smttext.specs.Names.{name_from, format_text, sort_text};
 ghost use Rattle.smtgrammar.specs.Tokens.{line_text, opening_text, mark_text, word_text, node_name, asserted_text, operand_text, text_at};
 ghost use Rattle.smtgrammar.specs.Grammar.{size_at};
 ghost use Rattle.smtchoices.specs.Seen.{seen};
 ghost use Rattle.smttokens.specs.Matches.{Matches, Extends};
-ghost use Rattle.smttokens.specs.Openings.{float_opening};
 
 use crate::matching::{all, decimal, one};
 use smtchoices::{State, Tables};
+use smtgrammar::{part, stage};
 
 // The first field of node i, 0 where there is none.
 fn first_at(t: &Tables, i: usize) -> u64
@@ -20,11 +20,18 @@ fn first_at(t: &Tables, i: usize) -> u64
     t.firsts.get(i).copied().unwrap_or(0)
 }
 
+// A node of kind k is declared.
+fn is_declared(k: u64) -> bool
+    ensures { result ≡ leb k 5 || eqb k 26 }
+{
+    k <= 5 || k == 26
+}
+
 // `x7_1_0` of a declared node, `n8` of a defined one.
 fn name(x: &[u8], at: usize, i: u64, k: u64, a: u64) -> Result<usize, usize>
     ensures { Extends (name_from i k a) x.now at result }
 {
-    if (k <= 5) | (k == 26) {
+    if is_declared(k) {
         let p = one(x, at, b'x')?;
         let q = decimal(x, p, i)?;
         let r = one(x, q, b'_')?;
@@ -77,25 +84,6 @@ fn to_sbv(x: &[u8], at: usize, s: u64) -> Result<usize, usize>
     all(x, q, b") ")
 }
 
-// What opens a term of a float's kind.
-fn float_opening(x: &[u8], at: usize, k: usize, s: usize) -> Result<usize, usize>
-    ensures { Extends (float_opening k s) x.now at result }
-{
-    match k {
-        16 => all(x, at, b"(fp.add "),
-        17 => all(x, at, b"(fp.sub "),
-        18 => all(x, at, b"(fp.mul "),
-        19 => all(x, at, b"(fp.div "),
-        20 => all(x, at, b"(ite (fp.eq "),
-        21 => all(x, at, b"(ite (fp.lt "),
-        22 => all(x, at, b"(ite (fp.isNaN "),
-        23 => all(x, at, b"(fp.sqrt "),
-        24 => all(x, at, b"(fp.roundToIntegral "),
-        25 => to_fp(x, at, s as u64),
-        _ => to_sbv(x, at, s as u64),
-    }
-}
-
 // What opens a term of kind k and sort s.
 pub(crate) fn opening(x: &[u8], at: usize, k: usize, s: usize) -> Result<usize, usize>
     ensures { Extends (opening_text k s) x.now at result }
@@ -110,7 +98,17 @@ pub(crate) fn opening(x: &[u8], at: usize, k: usize, s: usize) -> Result<usize, 
         12 => all(x, at, b"(ite (not (= #b1 "),
         14 => all(x, at, b"((_ extract "),
         15 => all(x, at, b"(concat "),
-        _ => float_opening(x, at, k, s),
+        16 => all(x, at, b"(fp.add "),
+        17 => all(x, at, b"(fp.sub "),
+        18 => all(x, at, b"(fp.mul "),
+        19 => all(x, at, b"(fp.div "),
+        20 => all(x, at, b"(ite (fp.eq "),
+        21 => all(x, at, b"(ite (fp.lt "),
+        22 => all(x, at, b"(ite (fp.isNaN "),
+        23 => all(x, at, b"(fp.sqrt "),
+        24 => all(x, at, b"(fp.roundToIntegral "),
+        25 => to_fp(x, at, s as u64),
+        _ => to_sbv(x, at, s as u64),
     }
 }
 
@@ -147,8 +145,8 @@ fn line(x: &[u8], at: usize, v: usize) -> Result<usize, usize>
     ensures { Extends (line_text v) x.now at result }
 {
     match v {
-        0 => all(x, at, b"(declare-fun x"),
-        1 => all(x, at, b"(define-fun n"),
+        part::DECLARES => all(x, at, b"(declare-fun x"),
+        part::DEFINES => all(x, at, b"(define-fun n"),
         _ => all(x, at, b"(assert (= "),
     }
 }
@@ -252,26 +250,27 @@ fn asserted(x: &[u8], at: usize, s: &State) -> Result<usize, usize>
 }
 
 // How much of the text of the choice v is there, at the line's stage.
+#[tactic(auto, using(crate::specs::Matches::whole), unfolding(writing::specs::Bytes::bytes, smtgrammar::specs::Tokens::node_name, smtgrammar::specs::Tokens::asserted_text, smtgrammar::specs::Tokens::text_at, smtgrammar::specs::Grammar::size_at))]
 pub(crate) fn text_at(x: &[u8], s: &State, v: usize) -> Result<usize, usize>
     requires { v < size_at s.now.line.stage }
     ensures { Matches (text_at (seen s.now.tables) s.now.place s.now.line v) x.now result }
 {
     match s.line.stage {
-        0 => line(x, 0, v),
-        1 => number(x, 0, v, b'_'),
-        2 => number(x, 0, v, b'_'),
-        3 => number(x, 0, v, b' '),
-        4 => numeral(x, 0, v),
-        5 => width(x, 0, v),
-        6 => number(x, 0, v, b' '),
-        7 => sorted(x, 0, v),
-        8 => opening(x, 0, v, s.line.sort),
-        9 => first(x, 0, s, v),
-        10 => operand(x, 0, s, 0, v),
-        11 => operand(x, 0, s, 1, v),
-        12 => operand(x, 0, s, 2, v),
-        13 => places(x, 0, v, s.line.sort),
-        14 => bit(x, 0, s.line.left, v),
+        stage::LINE => line(x, 0, v),
+        stage::DECLARED => number(x, 0, v, b'_'),
+        stage::KIND => number(x, 0, v, b'_'),
+        stage::NUMBER => number(x, 0, v, b' '),
+        stage::DIGIT => numeral(x, 0, v),
+        stage::WIDTH => width(x, 0, v),
+        stage::DEFINED => number(x, 0, v, b' '),
+        stage::SORT => sorted(x, 0, v),
+        stage::OPENING => opening(x, 0, v, s.line.sort),
+        stage::FIRST => first(x, 0, s, v),
+        stage::OPERAND_0 => operand(x, 0, s, 0, v),
+        stage::OPERAND_1 => operand(x, 0, s, 1, v),
+        stage::OPERAND_2 => operand(x, 0, s, 2, v),
+        stage::PLACES => places(x, 0, v, s.line.sort),
+        stage::BIT => bit(x, 0, s.line.left, v),
         _ => asserted(x, 0, s),
     }
 }

@@ -34,4 +34,4 @@ loop-i-preserved c =
     }
 
 pub returns : goal.returns
-returns c = let l = c.loop-i in written (bare (tables_of c.args.self.now)) c.args.nodes.now l.nodes l.i l.at (let e = c.min-i-end.ensures in let h = c.loop-i-test.false in let k = l.auto.i-end in omega arith) l.invariant.words l.invariant.place
+returns c = let l = c.loop-i in written (bare (tables_of c.args.self.now)) c.args.nodes.now l.nodes l.i (let e = c.min-i-end.ensures in let h = c.loop-i-test.false in let k = l.auto.i-end in omega arith) l.invariant.words

@@ -14,4 +14,4 @@ rows-requires c =
 pub returns-else-room-n : goal.returns-else-room-n
 returns-else-room-n c =
     let h = rw c.in-Ok.is at c.in_ok-q.ensures.ends in
-    filled _ h _ _ c.room.ensures c.if-room-n.false _ c.rows.ensures
+    filled _ h _ _ c.room.ensures c.if-room-n.false c.rows.ensures

@@ -1,0 +1,4 @@
+// The parts of a text, in their order, and what begins a line of each.
+pub const DECLARES: usize = 0;
+pub const DEFINES: usize = 1;
+pub const ASSERTS: usize = 2;
