@@ -46,10 +46,29 @@ fn parameters(text: &str) -> Vec<&str> {
     out
 }
 
-/// The public calls of one source text, whose contracts stand below `path`.
+/// The public calls of one source text, whose contracts stand below `path`:
+/// its functions, and the methods of its types.
 fn public(krate: &str, path: &str, text: &str) -> Vec<Call> {
+    let mut out = functions(krate, path, text, &["\npub fn ", "\npub extern \"C\" fn "]);
+    for part in text.split("\nimpl ").skip(1) {
+        let (of, rest) = part.split_once(" {\n").expect("what it is of");
+        let body = rest.split("\n}").next().expect("its end");
+        if !of.contains(' ') {
+            out.extend(functions(
+                krate,
+                &format!("{path}.{of}"),
+                &format!("\n{body}"),
+                &["\n    pub fn "],
+            ));
+        }
+    }
+    out
+}
+
+/// The functions of a text that begin so.
+fn functions(krate: &str, path: &str, text: &str, starts: &[&str]) -> Vec<Call> {
     let mut out = Vec::new();
-    for start in ["\npub fn ", "\npub extern \"C\" fn "] {
+    for start in starts {
         for (place, _) in text.match_indices(start) {
             let rest = &text[place + start.len()..];
             let name = rest.split(['(', '<']).next().expect("a name");
@@ -70,6 +89,17 @@ fn public(krate: &str, path: &str, text: &str) -> Vec<Call> {
     }
     out
 }
+
+/// The operators of the words and their making from one: their promises are
+/// the ghost members that they give to std's traits.
+const OPERATORS: [&str; 6] = [
+    "WideBitAnd.bitand",
+    "WideBitOr.bitor",
+    "WideBitXor.bitxor",
+    "WideShlU64.shl",
+    "WideShrU64.shr",
+    "WideFromU64.from",
+];
 
 /// The static library.
 const EXPORTS: &str = "export_c";
@@ -102,20 +132,33 @@ fn calls() -> Vec<Call> {
             }
         }
     }
+    out.extend(OPERATORS.iter().map(|operator| Call {
+        krate: "words".to_owned(),
+        name: operator.split('.').next_back().expect("a name").to_owned(),
+        contract: format!("Rattle.words.proofs.{operator}"),
+        lent: Vec::new(),
+    }));
     out
 }
 
 /// What the theorem must state of a call. `trim` gives a reference back, of
 /// which its bytes are determined; a function on a
-/// reader has its contract as a formula.
+/// reader has its contract as a formula. A generic function is determined at
+/// each of its parameters, whose laws stand behind them.
 fn expected(call: &Call) -> String {
     let Call {
         krate, contract, ..
     } = call;
     let name = call.name.replace('_', "-");
     let key = format!("pub {krate}·{name}");
-    match (krate.as_str(), name.as_str()) {
+    match (krate.as_str(), call.name.as_str()) {
         ("texts", "trim") => format!("{key} : Fixes {contract}.Reads.Post (λ κ r x. r.now)"),
+        ("words", "le") => {
+            format!("{key} : (N : _) (n : _) → Determined ({contract}.Reads.Post N n)")
+        }
+        ("answers", "number_of" | "place_of") => format!(
+            "{key} : (T : _) (E : _) (t : _) (e : _) (says : _) (code : _) → Determined ({contract}.Reads.Post T E t e says code)"
+        ),
         ("reader", "new" | "moved" | "take") => format!(
             "{key}-says : {{M : Type 1}} {{𝓤 : Ura M}} (𝓛 : Logic 𝓤) (memory : _) (run : _) (κ : _) (a : _) (t : _) (e : _) → (Rattle.{krate}.specs.contracts.{}.clauses 𝓛 memory run κ a).ensures tt t e ≡ (connectives 𝓤).⌜◌⌝",
             call.name
@@ -142,7 +185,12 @@ fn plain(text: &str) -> String {
 fn stated(theorem: &str, call: &Call) -> bool {
     let name = format!("{}·{}", call.krate, call.name.replace('_', "-"));
     let statement = expected(call);
-    let proof = [format!(" {name} κ "), " unfolding ".to_owned()];
+    let proof = [
+        format!(" {name} κ "),
+        format!(" {name} N "),
+        format!(" {name} T "),
+        " unfolding ".to_owned(),
+    ];
     theorem.split_once(&statement).is_some_and(|(_, rest)| {
         statement.ends_with('⌝') || proof.iter().any(|start| rest.starts_with(start))
     })
