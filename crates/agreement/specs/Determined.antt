@@ -256,6 +256,24 @@ texts·Text·is-valid κ a r s x y = one
 
 -- words
 
+pub words·from : Determined Rattle.words.proofs.WideFromU64.from.Reads.Post
+words·from κ a r s x y = one
+
+pub words·bitand : Determined Rattle.words.proofs.WideBitAnd.bitand.Reads.Post
+words·bitand κ a r s x y = one
+
+pub words·bitor : Determined Rattle.words.proofs.WideBitOr.bitor.Reads.Post
+words·bitor κ a r s x y = one
+
+pub words·bitxor : Determined Rattle.words.proofs.WideBitXor.bitxor.Reads.Post
+words·bitxor κ a r s x y = one
+
+pub words·shr : Determined Rattle.words.proofs.WideShrU64.shr.Reads.Post
+words·shr κ a r s x y = one
+
+pub words·shl : Determined Rattle.words.proofs.WideShlU64.shl.Reads.Post
+words·shl κ a r s x y = one
+
 pub words·Wide·low : Determined Rattle.words.proofs.Wide.low.Reads.Post
 words·Wide·low κ a r s x y = one
 

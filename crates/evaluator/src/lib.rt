@@ -201,6 +201,7 @@ fn flag(b: bool) -> Wide
 }
 
 // The value of a node that is not given, from its row, its operands' sorts and values. A kind is a number, since a row is four words of a list that C lends.
+#[tactic(auto, unfolding(crate::specs::Value::computed))]
 fn compute(k: u64, a: u64, b: u64, c: u64, sa: u64, sb: u64, va: Wide, vb: Wide, vc: Wide) -> Wide
     requires { ComputeReady k sa sb (val va) (val vb) }
     ensures { val result ≡ computed k a b c sa sb (val va) (val vb) (val vc) }
@@ -234,6 +235,7 @@ fn is_given(k: u64) -> bool
 }
 
 // What a given value is held as.
+#[tactic(auto, unfolding(crate::specs::Value::held))]
 fn hold(s: u64, g: Wide) -> Wide
     ensures { val result ≡ held s (val g) }
 {
@@ -287,7 +289,7 @@ fn operand<const N: usize>(nodes: &[u64], i: usize, p: usize, column: &[u64]) ->
 }
 
 // The value of a node with N operands, entries of the column, whose sorts are handed over where its kind looks at them.
-fn computed<const N: usize>(
+fn compute_at<const N: usize>(
     k: u64,
     nodes: &[u64],
     i: usize,
@@ -312,28 +314,28 @@ fn computed<const N: usize>(
     )
 }
 
-// The value of node i, from the sorts and the values of the earlier nodes: of each kind what it looks at.
+// The value of node i, from the sorts and the values of the earlier nodes: of each kind what it looks at. The four slices are not one struct: `run` writes to the column between two calls.
 fn node_value(nodes: &[u64], given: &[u64], t: &[u16], column: &[u64], i: usize) -> Wide
     requires { NodeReady nodes.now given.now t.now column.now i }
     ensures { val result ≡ row_value nodes.now given.now i (sorts nodes.now i) (vals nodes.now given.now i) }
 {
     let j = 4 * i;
     match nodes[j] {
-        6 => computed::<0>(6, nodes, i, 0, 0, column),
-        7 => computed::<2>(7, nodes, i, 0, 0, column),
-        8 => computed::<2>(8, nodes, i, 0, 0, column),
-        9 => computed::<2>(9, nodes, i, 0, 0, column),
-        10 => computed::<2>(10, nodes, i, 0, 0, column),
-        11 => computed::<2>(11, nodes, i, 0, 0, column),
-        12 => computed::<1>(12, nodes, i, 0, 0, column),
-        13 => computed::<3>(13, nodes, i, 0, 0, column),
-        14 => computed::<1>(14, nodes, i, 0, 0, column),
-        15 => computed::<2>(15, nodes, i, 0, sort_at(nodes, j + 2, t), column),
-        20 => computed::<2>(20, nodes, i, sort_at(nodes, j + 1, t), 0, column),
-        21 => computed::<2>(21, nodes, i, sort_at(nodes, j + 1, t), 0, column),
-        22 => computed::<1>(22, nodes, i, sort_at(nodes, j + 1, t), 0, column),
-        25 => computed::<1>(25, nodes, i, 0, 0, column),
-        26 => computed::<1>(26, nodes, i, 0, 0, column),
+        6 => compute_at::<0>(6, nodes, i, 0, 0, column),
+        7 => compute_at::<2>(7, nodes, i, 0, 0, column),
+        8 => compute_at::<2>(8, nodes, i, 0, 0, column),
+        9 => compute_at::<2>(9, nodes, i, 0, 0, column),
+        10 => compute_at::<2>(10, nodes, i, 0, 0, column),
+        11 => compute_at::<2>(11, nodes, i, 0, 0, column),
+        12 => compute_at::<1>(12, nodes, i, 0, 0, column),
+        13 => compute_at::<3>(13, nodes, i, 0, 0, column),
+        14 => compute_at::<1>(14, nodes, i, 0, 0, column),
+        15 => compute_at::<2>(15, nodes, i, 0, sort_at(nodes, j + 2, t), column),
+        20 => compute_at::<2>(20, nodes, i, sort_at(nodes, j + 1, t), 0, column),
+        21 => compute_at::<2>(21, nodes, i, sort_at(nodes, j + 1, t), 0, column),
+        22 => compute_at::<1>(22, nodes, i, sort_at(nodes, j + 1, t), 0, column),
+        25 => compute_at::<1>(25, nodes, i, 0, 0, column),
+        26 => compute_at::<1>(26, nodes, i, 0, 0, column),
         _ => hold(u64::from(t[i]), pair_at(given, i)),
     }
 }

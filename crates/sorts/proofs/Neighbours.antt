@@ -1,9 +1,9 @@
 -- What holds of each of two neighbouring kinds, and of four; and that no other kind has a sort.
-use mathlib.Core.Path.{◌≡◌, subst, sym}
+use mathlib.Core.Path.{◌≡◌, subst}
 use Prim.Native.Nat.{ℕ, ◌+◌, ◌≤◌, ◌<◌}
 use native.Mathlib.Omega.{arith}
 use native.Mathlib.Decide.{dec_lt}
-use Rattle.std.specs.Prelude.{Bool, false, eqb}
+use Rattle.std.specs.Prelude.{false, eqb}
 use Rattle.std.proofs.Common.{ne_eqb}
 use Rattle.sorts.specs.Sorts.{sort_row}
 

@@ -1,33 +1,16 @@
--- Equality and order of two-word numbers, and what fits k bits, word by word.
+-- Equality of two-word numbers, and what fits k bits, word by word.
 use mathlib.Core.Path.{◌≡◌}
-use mathlib.Core.Bool.{true, ◌&&◌, ◌||◌}
+use mathlib.Core.Bool.{◌&&◌}
 use Prim.Native.Nat.{ℕ, ◌+◌, ◌-◌, ◌*◌, ◌/◌, ◌^◌, ◌≤◌, ◌<◌}
 use native.Mathlib.Nat.{div-eq_of_lt, div-lt_iff_lt-mul}
 use native.Mathlib.Omega.{arith}
-use native.Mathlib.Decide.{dec_lt}
 use lib.Dec.{ltb, eqb}
 use lib.Pow.{pow_pos, pow-lt}
 use borrow.Author.Tests.{lt-ltb, ltb-true, eq-eqb, eqb-true}
-use Rattle.words.specs.Tests.{and_l, and_r, and_i, or_l, or_r, or_case, same_test}
+use Rattle.words.specs.Tests.{and_l, and_r, and_i, same_test}
 use Rattle.words.proofs.Shifts.{shr_high}
 
 module _ (hx lx hy ly : ℕ) (kx : lx < 2 ^ 64) (ky : ly < 2 ^ 64) where
-  lt_by : hx * 2 ^ 64 + lx < hy * 2 ^ 64 + ly → Dec (hx < hy) → ltb hx hy || (eqb hx hy && ltb lx ly) ≡ true
-  lt_by h (yes d) = or_l (ltb hx hy) (eqb hx hy && ltb lx ly) (lt-ltb hx hy d)
-  lt_by h (no d) =
-      let n : hy ≤ hx = omega arith in
-      or_r (ltb hx hy) (eqb hx hy && ltb lx ly)
-      (and_i (eqb hx hy) (ltb lx ly) (eq-eqb hx hy (omega arith)) (lt-ltb lx ly (omega arith)))
-
-  pub lt-two : ltb hx hy || (eqb hx hy && ltb lx ly) ≡ ltb (hx * 2 ^ 64 + lx) (hy * 2 ^ 64 + ly)
-  lt-two =
-      same_test (ltb hx hy || (eqb hx hy && ltb lx ly)) (ltb (hx * 2 ^ 64 + lx) (hy * 2 ^ 64 + ly))
-      (λ e. lt-ltb (hx * 2 ^ 64 + lx) (hy * 2 ^ 64 + ly)
-      (or_case (ltb hx hy) (eqb hx hy && ltb lx ly) e
-      (λ d. let h = ltb-true hx hy d in omega arith)
-      (λ d. let h = eqb-true hx hy (and_l (eqb hx hy) (ltb lx ly) d) in let k = ltb-true lx ly (and_r (eqb hx hy) (ltb lx ly) d) in omega arith)))
-      (λ e. lt_by (ltb-true (hx * 2 ^ 64 + lx) (hy * 2 ^ 64 + ly) e) (dec_lt hx hy))
-
   pub eq-two : eqb hx hy && eqb lx ly ≡ eqb (hx * 2 ^ 64 + lx) (hy * 2 ^ 64 + ly)
   eq-two =
       same_test (eqb hx hy && eqb lx ly) (eqb (hx * 2 ^ 64 + lx) (hy * 2 ^ 64 + ly))

@@ -9,7 +9,7 @@ ghost use Rattle.words.specs.Wide.{val, wide_of, extract_of, concat_of};
 
 use std::ops::{BitAnd, BitOr, BitXor, Shl, Shr};
 
-// A number of up to 128 bits: its high word and its low word, so the derived order is that of the numbers.
+// A number of up to 128 bits. The high word stands first, so the derived order is that of the numbers.
 #[derive(Clone, Copy, PartialEq, Eq, PartialOrd, Ord)]
 pub struct Wide {
     pub hi: u64,

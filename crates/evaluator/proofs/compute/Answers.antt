@@ -5,18 +5,6 @@ use Rattle.evaluator.specs.Value.{computed}
 use Rattle.words.specs.Wide.{val_of}
 use Rattle.evaluator.proofs.compute.Goals as goal
 
-pub returns-in-6 : goal.returns-in-6
-unfolding computed
-returns-in-6 c = rw c.in-6.is
-
-pub returns-in-7 : goal.returns-in-7
-unfolding computed
-returns-in-7 c = rw (c.in-7.is, val_of _ _ c.bitand.ensures)
-
-pub returns-in-8 : goal.returns-in-8
-unfolding computed
-returns-in-8 c = rw (c.in-8.is, val_of _ _ c.bitxor.ensures)
-
 pub returns-in-9 : goal.returns-in-9
 unfolding computed
 returns-in-9 c =
@@ -55,33 +43,9 @@ returns-else-va-eq1 c =
     let k = c.in-13.is in
     rw (k, ← low-is c.args.va.hi c.args.va.lo (c.requires.flag (inr k)), ne_eqb _ _ c.if-va-eq1.false)
 
-pub returns-in-14 : goal.returns-in-14
-unfolding computed
-returns-in-14 c = rw (c.in-14.is, val_of _ _ c.extract.ensures)
-
 pub returns-in-15 : goal.returns-in-15
 unfolding computed
 returns-in-15 c = rw c.in-15.is (val_of _ _ c.concat.ensures ∙ mod-eq_of_lt (c.requires.joined c.in-15.is))
-
-pub returns-in-20 : goal.returns-in-20
-unfolding computed
-returns-in-20 c = rw (c.in-20.is, c.flag-in-20.ensures, c.equal.ensures)
-
-pub returns-in-21 : goal.returns-in-21
-unfolding computed
-returns-in-21 c = rw (c.in-21.is, c.flag-in-21.ensures, c.less.ensures)
-
-pub returns-in-22 : goal.returns-in-22
-unfolding computed
-returns-in-22 c = rw (c.in-22.is, c.flag-in-22.ensures, c.is_nan.ensures)
-
-pub returns-in-25 : goal.returns-in-25
-unfolding computed
-returns-in-25 c = rw (c.in-25.is, c.canonical.ensures)
-
-pub returns-in-26 : goal.returns-in-26
-unfolding computed
-returns-in-26 c = rw c.in-26.is
 
 pub returns-in_default : goal.returns-in_default
 unfolding computed

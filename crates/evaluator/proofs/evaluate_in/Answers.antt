@@ -1,6 +1,5 @@
-use Rattle.std.proofs.Common.{refl, sym, ◌∙◌, arith, length}
+use Rattle.std.proofs.Common.{sym, ◌∙◌, arith, length}
 use Rattle.evaluator.proofs.Ends.{ended, stopped}
-use Rattle.evaluator.specs.Outcome.{of_check}
 use Rattle.evaluator.proofs.Filled.{enough, scanned}
 use Rattle.evaluator.proofs.Node.{kinds}
 use Rattle.evaluator.specs.Laws.{done-fits, table-checked}

@@ -1,4 +1,4 @@
-use Rattle.std.proofs.Common.{◌≡◌, ◌≤◌, ◌-◌}
+use Rattle.std.proofs.Common.{◌≡◌, ◌-◌}
 use Rattle.evaluator.specs.Lists.{wide_from}
 use Rattle.evaluator.proofs.first_wide.Given as goal
 

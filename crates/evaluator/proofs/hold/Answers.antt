@@ -4,10 +4,6 @@ use Rattle.evaluator.specs.Value.{held}
 use Rattle.evaluator.proofs.hold.Goals as goal
 use Rattle.evaluator.proofs.hold.Goals.{else-s-gt80-via-then-s-gt80+else-is_float, else-s-gt80-via-else-s-gt80}
 
-pub returns-then-is_float : goal.returns-then-is_float
-unfolding held
-returns-then-is_float c = rw (sym c.is_float.ensures ∙ c.if-is_float.true) c.canonical.ensures
-
 pub returns-else-s-gt80 : goal.returns-else-s-gt80
 unfolding held
 returns-else-s-gt80 c =

@@ -1,5 +1,5 @@
 use Rattle.std.proofs.Common.{refl, ◌∙◌, arith}
-use Rattle.evaluator.proofs.Node.{plain, given-else, first, second, names, sort-of, and-ready, or-ready, not-ready, ite-ready, concat-ready, equal-ready, less-ready, operands-ready, as-value, value-by}
+use Rattle.evaluator.proofs.Node.{plain, given-else, first, second, names, sort-of, and-ready, or-ready, not-ready, ite-ready, concat-ready, equal-ready, less-ready, operands-ready, value-by}
 use Rattle.evaluator.specs.Lists.{row_value}
 use Rattle.evaluator.specs.Value.{computed}
 use Rattle.needs.specs.Needed.{arity}
@@ -7,9 +7,9 @@ use Rattle.sorts.specs.Lists.{field, row_sort}
 use Rattle.words.specs.Wide.{val}
 use Rattle.evaluator.proofs.node_value.Goals as goal
 
-pub computed-requires : goal.computed-requires
+pub compute_at-requires : goal.compute_at-requires
 unfolding arity
-computed-requires c =
+compute_at-requires c =
     let a = c.args in
     let k = c.in-6.is in
     operands-ready a.nodes.now a.given.now a.t.now a.column.now a.i c.requires 6 k 0 0 0 refl (plain 6 0 0 _ _ refl)
@@ -19,11 +19,11 @@ unfolding computed arity
 returns-in-6 c =
     let a = c.args in
     let k = c.in-6.is in
-    value-by a.nodes.now a.given.now a.t.now a.column.now a.i c.requires 6 k 0 (val c.computed.result) 0 0 refl refl c.computed.ensures refl
+    value-by a.nodes.now a.given.now a.t.now a.column.now a.i c.requires 6 k 0 (val c.compute_at.result) 0 0 refl refl c.compute_at.ensures refl
 
-pub computed-requires-in-7 : goal.computed-requires-in-7
+pub compute_at-requires-in-7 : goal.compute_at-requires-in-7
 unfolding arity
-computed-requires-in-7 c =
+compute_at-requires-in-7 c =
     let a = c.args in
     let k = c.in-7.is in
     operands-ready a.nodes.now a.given.now a.t.now a.column.now a.i c.requires 7 k 2 0 0 refl (plain 7 0 0 _ _ refl)
@@ -33,11 +33,11 @@ unfolding computed arity
 returns-in-7 c =
     let a = c.args in
     let k = c.in-7.is in
-    value-by a.nodes.now a.given.now a.t.now a.column.now a.i c.requires 7 k 2 (val c.computed-in-7.result) 0 0 refl refl c.computed-in-7.ensures refl
+    value-by a.nodes.now a.given.now a.t.now a.column.now a.i c.requires 7 k 2 (val c.compute_at-in-7.result) 0 0 refl refl c.compute_at-in-7.ensures refl
 
-pub computed-requires-in-8 : goal.computed-requires-in-8
+pub compute_at-requires-in-8 : goal.compute_at-requires-in-8
 unfolding arity
-computed-requires-in-8 c =
+compute_at-requires-in-8 c =
     let a = c.args in
     let k = c.in-8.is in
     operands-ready a.nodes.now a.given.now a.t.now a.column.now a.i c.requires 8 k 2 0 0 refl (plain 8 0 0 _ _ refl)
@@ -47,11 +47,11 @@ unfolding computed arity
 returns-in-8 c =
     let a = c.args in
     let k = c.in-8.is in
-    value-by a.nodes.now a.given.now a.t.now a.column.now a.i c.requires 8 k 2 (val c.computed-in-8.result) 0 0 refl refl c.computed-in-8.ensures refl
+    value-by a.nodes.now a.given.now a.t.now a.column.now a.i c.requires 8 k 2 (val c.compute_at-in-8.result) 0 0 refl refl c.compute_at-in-8.ensures refl
 
-pub computed-requires-in-9 : goal.computed-requires-in-9
+pub compute_at-requires-in-9 : goal.compute_at-requires-in-9
 unfolding arity
-computed-requires-in-9 c =
+compute_at-requires-in-9 c =
     let a = c.args in
     let k = c.in-9.is in
     operands-ready a.nodes.now a.given.now a.t.now a.column.now a.i c.requires 9 k 2 0 0 refl (plain 9 0 0 _ _ refl)
@@ -61,11 +61,11 @@ unfolding computed arity
 returns-in-9 c =
     let a = c.args in
     let k = c.in-9.is in
-    value-by a.nodes.now a.given.now a.t.now a.column.now a.i c.requires 9 k 2 (val c.computed-in-9.result) 0 0 refl refl c.computed-in-9.ensures refl
+    value-by a.nodes.now a.given.now a.t.now a.column.now a.i c.requires 9 k 2 (val c.compute_at-in-9.result) 0 0 refl refl c.compute_at-in-9.ensures refl
 
-pub computed-requires-in-10 : goal.computed-requires-in-10
+pub compute_at-requires-in-10 : goal.compute_at-requires-in-10
 unfolding arity
-computed-requires-in-10 c =
+compute_at-requires-in-10 c =
     let a = c.args in
     let k = c.in-10.is in
     operands-ready a.nodes.now a.given.now a.t.now a.column.now a.i c.requires 10 k 2 0 0 refl (and-ready a.nodes.now a.given.now a.t.now a.column.now a.i c.requires k)
@@ -75,11 +75,11 @@ unfolding computed arity
 returns-in-10 c =
     let a = c.args in
     let k = c.in-10.is in
-    value-by a.nodes.now a.given.now a.t.now a.column.now a.i c.requires 10 k 2 (val c.computed-in-10.result) 0 0 refl refl c.computed-in-10.ensures refl
+    value-by a.nodes.now a.given.now a.t.now a.column.now a.i c.requires 10 k 2 (val c.compute_at-in-10.result) 0 0 refl refl c.compute_at-in-10.ensures refl
 
-pub computed-requires-in-11 : goal.computed-requires-in-11
+pub compute_at-requires-in-11 : goal.compute_at-requires-in-11
 unfolding arity
-computed-requires-in-11 c =
+compute_at-requires-in-11 c =
     let a = c.args in
     let k = c.in-11.is in
     operands-ready a.nodes.now a.given.now a.t.now a.column.now a.i c.requires 11 k 2 0 0 refl (or-ready a.nodes.now a.given.now a.t.now a.column.now a.i c.requires k)
@@ -89,11 +89,11 @@ unfolding computed arity
 returns-in-11 c =
     let a = c.args in
     let k = c.in-11.is in
-    value-by a.nodes.now a.given.now a.t.now a.column.now a.i c.requires 11 k 2 (val c.computed-in-11.result) 0 0 refl refl c.computed-in-11.ensures refl
+    value-by a.nodes.now a.given.now a.t.now a.column.now a.i c.requires 11 k 2 (val c.compute_at-in-11.result) 0 0 refl refl c.compute_at-in-11.ensures refl
 
-pub computed-requires-in-12 : goal.computed-requires-in-12
+pub compute_at-requires-in-12 : goal.compute_at-requires-in-12
 unfolding arity
-computed-requires-in-12 c =
+compute_at-requires-in-12 c =
     let a = c.args in
     let k = c.in-12.is in
     operands-ready a.nodes.now a.given.now a.t.now a.column.now a.i c.requires 12 k 1 0 0 refl (not-ready a.nodes.now a.given.now a.t.now a.column.now a.i c.requires k)
@@ -103,11 +103,11 @@ unfolding computed arity
 returns-in-12 c =
     let a = c.args in
     let k = c.in-12.is in
-    value-by a.nodes.now a.given.now a.t.now a.column.now a.i c.requires 12 k 1 (val c.computed-in-12.result) 0 0 refl refl c.computed-in-12.ensures refl
+    value-by a.nodes.now a.given.now a.t.now a.column.now a.i c.requires 12 k 1 (val c.compute_at-in-12.result) 0 0 refl refl c.compute_at-in-12.ensures refl
 
-pub computed-requires-in-13 : goal.computed-requires-in-13
+pub compute_at-requires-in-13 : goal.compute_at-requires-in-13
 unfolding arity
-computed-requires-in-13 c =
+compute_at-requires-in-13 c =
     let a = c.args in
     let k = c.in-13.is in
     operands-ready a.nodes.now a.given.now a.t.now a.column.now a.i c.requires 13 k 3 0 0 refl (ite-ready a.nodes.now a.given.now a.t.now a.column.now a.i c.requires k)
@@ -117,11 +117,11 @@ unfolding computed arity
 returns-in-13 c =
     let a = c.args in
     let k = c.in-13.is in
-    value-by a.nodes.now a.given.now a.t.now a.column.now a.i c.requires 13 k 3 (val c.computed-in-13.result) 0 0 refl refl c.computed-in-13.ensures refl
+    value-by a.nodes.now a.given.now a.t.now a.column.now a.i c.requires 13 k 3 (val c.compute_at-in-13.result) 0 0 refl refl c.compute_at-in-13.ensures refl
 
-pub computed-requires-in-14 : goal.computed-requires-in-14
+pub compute_at-requires-in-14 : goal.compute_at-requires-in-14
 unfolding arity
-computed-requires-in-14 c =
+compute_at-requires-in-14 c =
     let a = c.args in
     let k = c.in-14.is in
     operands-ready a.nodes.now a.given.now a.t.now a.column.now a.i c.requires 14 k 1 0 0 refl (plain 14 0 0 _ _ refl)
@@ -131,15 +131,15 @@ unfolding computed arity
 returns-in-14 c =
     let a = c.args in
     let k = c.in-14.is in
-    value-by a.nodes.now a.given.now a.t.now a.column.now a.i c.requires 14 k 1 (val c.computed-in-14.result) 0 0 refl refl c.computed-in-14.ensures refl
+    value-by a.nodes.now a.given.now a.t.now a.column.now a.i c.requires 14 k 1 (val c.compute_at-in-14.result) 0 0 refl refl c.compute_at-in-14.ensures refl
 
 pub sort_at-requires : goal.sort_at-requires
 unfolding arity
 sort_at-requires c = let a = c.args in names a.nodes.now a.given.now a.t.now a.column.now a.i c.requires 2 (omega arith) (second a.nodes.now a.given.now a.t.now a.column.now a.i c.requires 15 c.in-15.is refl)
 
-pub computed-requires-in-15 : goal.computed-requires-in-15
+pub compute_at-requires-in-15 : goal.compute_at-requires-in-15
 unfolding arity
-computed-requires-in-15 c =
+compute_at-requires-in-15 c =
     let a = c.args in
     let k = c.in-15.is in
     operands-ready a.nodes.now a.given.now a.t.now a.column.now a.i c.requires 15 k 2 0 c.sort_at.result refl (concat-ready a.nodes.now a.given.now a.t.now a.column.now a.i c.requires c.sort_at.result k (c.sort_at.ensures ∙ sort-of a.nodes.now a.given.now a.t.now a.column.now a.i c.requires (field a.nodes.now a.i 2) (second a.nodes.now a.given.now a.t.now a.column.now a.i c.requires 15 k refl)))
@@ -149,15 +149,15 @@ unfolding computed arity
 returns-in-15 c =
     let a = c.args in
     let k = c.in-15.is in
-    value-by a.nodes.now a.given.now a.t.now a.column.now a.i c.requires 15 k 2 (val c.computed-in-15.result) 0 c.sort_at.result refl refl c.computed-in-15.ensures (rw (c.sort_at.ensures ∙ sort-of a.nodes.now a.given.now a.t.now a.column.now a.i c.requires (field a.nodes.now a.i 2) (second a.nodes.now a.given.now a.t.now a.column.now a.i c.requires 15 k refl)))
+    value-by a.nodes.now a.given.now a.t.now a.column.now a.i c.requires 15 k 2 (val c.compute_at-in-15.result) 0 c.sort_at.result refl refl c.compute_at-in-15.ensures (rw (c.sort_at.ensures ∙ sort-of a.nodes.now a.given.now a.t.now a.column.now a.i c.requires (field a.nodes.now a.i 2) (second a.nodes.now a.given.now a.t.now a.column.now a.i c.requires 15 k refl)))
 
 pub sort_at-requires-in-20 : goal.sort_at-requires-in-20
 unfolding arity
 sort_at-requires-in-20 c = let a = c.args in names a.nodes.now a.given.now a.t.now a.column.now a.i c.requires 1 (omega arith) (first a.nodes.now a.given.now a.t.now a.column.now a.i c.requires 20 c.in-20.is refl)
 
-pub computed-requires-in-20 : goal.computed-requires-in-20
+pub compute_at-requires-in-20 : goal.compute_at-requires-in-20
 unfolding arity
-computed-requires-in-20 c =
+compute_at-requires-in-20 c =
     let a = c.args in
     let k = c.in-20.is in
     operands-ready a.nodes.now a.given.now a.t.now a.column.now a.i c.requires 20 k 2 c.sort_at-in-20.result 0 refl (equal-ready a.nodes.now a.given.now a.t.now a.column.now a.i c.requires c.sort_at-in-20.result k (c.sort_at-in-20.ensures ∙ sort-of a.nodes.now a.given.now a.t.now a.column.now a.i c.requires (field a.nodes.now a.i 1) (first a.nodes.now a.given.now a.t.now a.column.now a.i c.requires 20 k refl)))
@@ -167,15 +167,15 @@ unfolding computed arity
 returns-in-20 c =
     let a = c.args in
     let k = c.in-20.is in
-    value-by a.nodes.now a.given.now a.t.now a.column.now a.i c.requires 20 k 2 (val c.computed-in-20.result) c.sort_at-in-20.result 0 refl refl c.computed-in-20.ensures (rw (c.sort_at-in-20.ensures ∙ sort-of a.nodes.now a.given.now a.t.now a.column.now a.i c.requires (field a.nodes.now a.i 1) (first a.nodes.now a.given.now a.t.now a.column.now a.i c.requires 20 k refl)))
+    value-by a.nodes.now a.given.now a.t.now a.column.now a.i c.requires 20 k 2 (val c.compute_at-in-20.result) c.sort_at-in-20.result 0 refl refl c.compute_at-in-20.ensures (rw (c.sort_at-in-20.ensures ∙ sort-of a.nodes.now a.given.now a.t.now a.column.now a.i c.requires (field a.nodes.now a.i 1) (first a.nodes.now a.given.now a.t.now a.column.now a.i c.requires 20 k refl)))
 
 pub sort_at-requires-in-21 : goal.sort_at-requires-in-21
 unfolding arity
 sort_at-requires-in-21 c = let a = c.args in names a.nodes.now a.given.now a.t.now a.column.now a.i c.requires 1 (omega arith) (first a.nodes.now a.given.now a.t.now a.column.now a.i c.requires 21 c.in-21.is refl)
 
-pub computed-requires-in-21 : goal.computed-requires-in-21
+pub compute_at-requires-in-21 : goal.compute_at-requires-in-21
 unfolding arity
-computed-requires-in-21 c =
+compute_at-requires-in-21 c =
     let a = c.args in
     let k = c.in-21.is in
     operands-ready a.nodes.now a.given.now a.t.now a.column.now a.i c.requires 21 k 2 c.sort_at-in-21.result 0 refl (less-ready a.nodes.now a.given.now a.t.now a.column.now a.i c.requires c.sort_at-in-21.result k (c.sort_at-in-21.ensures ∙ sort-of a.nodes.now a.given.now a.t.now a.column.now a.i c.requires (field a.nodes.now a.i 1) (first a.nodes.now a.given.now a.t.now a.column.now a.i c.requires 21 k refl)))
@@ -185,15 +185,15 @@ unfolding computed arity
 returns-in-21 c =
     let a = c.args in
     let k = c.in-21.is in
-    value-by a.nodes.now a.given.now a.t.now a.column.now a.i c.requires 21 k 2 (val c.computed-in-21.result) c.sort_at-in-21.result 0 refl refl c.computed-in-21.ensures (rw (c.sort_at-in-21.ensures ∙ sort-of a.nodes.now a.given.now a.t.now a.column.now a.i c.requires (field a.nodes.now a.i 1) (first a.nodes.now a.given.now a.t.now a.column.now a.i c.requires 21 k refl)))
+    value-by a.nodes.now a.given.now a.t.now a.column.now a.i c.requires 21 k 2 (val c.compute_at-in-21.result) c.sort_at-in-21.result 0 refl refl c.compute_at-in-21.ensures (rw (c.sort_at-in-21.ensures ∙ sort-of a.nodes.now a.given.now a.t.now a.column.now a.i c.requires (field a.nodes.now a.i 1) (first a.nodes.now a.given.now a.t.now a.column.now a.i c.requires 21 k refl)))
 
 pub sort_at-requires-in-22 : goal.sort_at-requires-in-22
 unfolding arity
 sort_at-requires-in-22 c = let a = c.args in names a.nodes.now a.given.now a.t.now a.column.now a.i c.requires 1 (omega arith) (first a.nodes.now a.given.now a.t.now a.column.now a.i c.requires 22 c.in-22.is refl)
 
-pub computed-requires-in-22 : goal.computed-requires-in-22
+pub compute_at-requires-in-22 : goal.compute_at-requires-in-22
 unfolding arity
-computed-requires-in-22 c =
+compute_at-requires-in-22 c =
     let a = c.args in
     let k = c.in-22.is in
     operands-ready a.nodes.now a.given.now a.t.now a.column.now a.i c.requires 22 k 1 c.sort_at-in-22.result 0 refl (plain 22 c.sort_at-in-22.result 0 _ _ refl)
@@ -203,11 +203,11 @@ unfolding computed arity
 returns-in-22 c =
     let a = c.args in
     let k = c.in-22.is in
-    value-by a.nodes.now a.given.now a.t.now a.column.now a.i c.requires 22 k 1 (val c.computed-in-22.result) c.sort_at-in-22.result 0 refl refl c.computed-in-22.ensures (rw (c.sort_at-in-22.ensures ∙ sort-of a.nodes.now a.given.now a.t.now a.column.now a.i c.requires (field a.nodes.now a.i 1) (first a.nodes.now a.given.now a.t.now a.column.now a.i c.requires 22 k refl)))
+    value-by a.nodes.now a.given.now a.t.now a.column.now a.i c.requires 22 k 1 (val c.compute_at-in-22.result) c.sort_at-in-22.result 0 refl refl c.compute_at-in-22.ensures (rw (c.sort_at-in-22.ensures ∙ sort-of a.nodes.now a.given.now a.t.now a.column.now a.i c.requires (field a.nodes.now a.i 1) (first a.nodes.now a.given.now a.t.now a.column.now a.i c.requires 22 k refl)))
 
-pub computed-requires-in-25 : goal.computed-requires-in-25
+pub compute_at-requires-in-25 : goal.compute_at-requires-in-25
 unfolding arity
-computed-requires-in-25 c =
+compute_at-requires-in-25 c =
     let a = c.args in
     let k = c.in-25.is in
     operands-ready a.nodes.now a.given.now a.t.now a.column.now a.i c.requires 25 k 1 0 0 refl (plain 25 0 0 _ _ refl)
@@ -217,11 +217,11 @@ unfolding computed arity
 returns-in-25 c =
     let a = c.args in
     let k = c.in-25.is in
-    value-by a.nodes.now a.given.now a.t.now a.column.now a.i c.requires 25 k 1 (val c.computed-in-25.result) 0 0 refl refl c.computed-in-25.ensures refl
+    value-by a.nodes.now a.given.now a.t.now a.column.now a.i c.requires 25 k 1 (val c.compute_at-in-25.result) 0 0 refl refl c.compute_at-in-25.ensures refl
 
-pub computed-requires-in-26 : goal.computed-requires-in-26
+pub compute_at-requires-in-26 : goal.compute_at-requires-in-26
 unfolding arity
-computed-requires-in-26 c =
+compute_at-requires-in-26 c =
     let a = c.args in
     let k = c.in-26.is in
     operands-ready a.nodes.now a.given.now a.t.now a.column.now a.i c.requires 26 k 1 0 0 refl (plain 26 0 0 _ _ refl)
@@ -231,7 +231,7 @@ unfolding computed arity
 returns-in-26 c =
     let a = c.args in
     let k = c.in-26.is in
-    value-by a.nodes.now a.given.now a.t.now a.column.now a.i c.requires 26 k 1 (val c.computed-in-26.result) 0 0 refl refl c.computed-in-26.ensures refl
+    value-by a.nodes.now a.given.now a.t.now a.column.now a.i c.requires 26 k 1 (val c.compute_at-in-26.result) 0 0 refl refl c.compute_at-in-26.ensures refl
 
 pub returns-in_default : goal.returns-in_default
 unfolding row_value row_sort

@@ -1,4 +1,4 @@
-use Rattle.std.proofs.Common.{ℕ, ◌++◌, ◌∙◌, ap, drop, arith, length-set}
+use Rattle.std.proofs.Common.{◌++◌, ◌∙◌, ap, drop, arith, length-set}
 use Rattle.image.proofs.Loops.{low-byte, put-more, put-ends}
 use Rattle.words.specs.Wide.{val, val_of}
 use Rattle.image.proofs.put.Goals as goal

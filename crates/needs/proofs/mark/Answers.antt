@@ -1,6 +1,6 @@
-use Rattle.std.proofs.Common.{◌≡◌, ap, sym, ◌∙◌, ℕ, ◌+◌, ◌-◌, ◌*◌, add-one, arith, le-leb, lt-ltb, le-ltb, length, set}
+use Rattle.std.proofs.Common.{◌≡◌, ap, ◌∙◌, ◌+◌, ◌-◌, ◌*◌, add-one, arith, le-leb, lt-ltb, le-ltb, length}
 use Rattle.needs.specs.Laws.{length-spread, turn, last}
-use Rattle.needs.specs.Needed.{pass, marked_from}
+use Rattle.needs.specs.Needed.{marked_from}
 use borrow.Author.Tests.{lt-leb}
 use Rattle.needs.proofs.mark.Goals as goal
 use Rattle.needs.proofs.mark.Goals.{then-nodes-root-via-then-nodes-root, then-nodes-root-via-else-nodes-root+then-m-root}

@@ -1,4 +1,4 @@
-use Rattle.std.proofs.Common.{◌≡◌, ap, sym, ◌∙◌, ℕ, arith}
+use Rattle.std.proofs.Common.{◌≡◌, arith}
 use Rattle.sorts.specs.Sorts.{sort_row}
 use Rattle.sorts.proofs.Neighbours.{of-two, of-four, none-past}
 use Rattle.sorts.proofs.sort_of.Goals as goal

@@ -125,6 +125,17 @@ fn in_traits(krate: &str, path: &str, text: &str) -> Vec<Call> {
     out
 }
 
+/// The operators of the words and their making from one: their promises are
+/// the ghost members that they give to std's traits.
+const OPERATORS: [&str; 6] = [
+    "WideBitAnd.bitand",
+    "WideBitOr.bitor",
+    "WideBitXor.bitxor",
+    "WideShlU64.shl",
+    "WideShrU64.shr",
+    "WideFromU64.from",
+];
+
 /// The static library.
 const EXPORTS: &str = "export_c";
 
@@ -161,12 +172,19 @@ fn calls() -> Vec<Call> {
             }
         }
     }
+    out.extend(OPERATORS.iter().map(|operator| Call {
+        krate: "words".to_owned(),
+        name: operator.split('.').next_back().expect("a name").to_owned(),
+        contract: format!("Rattle.words.proofs.{operator}"),
+        lent: Vec::new(),
+    }));
     out
 }
 
 /// What the theorem must state of a call. `trim` and `as_bytes` give a
 /// reference back, of which its bytes are determined; a function on
-/// what takes text has its contract as a formula.
+/// what takes text has its contract as a formula. A generic function is
+/// determined at each of its parameters, whose laws stand behind them.
 fn expected(call: &Call) -> String {
     let Call {
         krate, contract, ..
@@ -177,6 +195,12 @@ fn expected(call: &Call) -> String {
         ("texts", "trim" | "Text·as-bytes") => {
             format!("{key} : Fixes {contract}.Reads.Post (λ κ r x. r.now)")
         }
+        ("words", "le") => {
+            format!("{key} : (N : _) (n : _) → Determined ({contract}.Reads.Post N n)")
+        }
+        ("answers", "number-of" | "place-of") => format!(
+            "{key} : (T : _) (E : _) (t : _) (e : _) (says : _) (code : _) → Determined ({contract}.Reads.Post T E t e says code)"
+        ),
         ("writing", "fitted") => format!(
             "{key} : (T : _) (laws : _) (text : _) (dict : _) → Determined₁ ({contract}.Reads.Post T laws text dict) (λ κ x. x.1.0.now)"
         ),
@@ -213,6 +237,7 @@ fn stated(theorem: &str, call: &Call) -> bool {
     let proof = [
         format!(" {name} κ "),
         format!(" {name} T "),
+        format!(" {name} N "),
         " unfolding ".to_owned(),
     ];
     theorem.split_once(&statement).is_some_and(|(_, rest)| {

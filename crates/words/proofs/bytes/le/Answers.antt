@@ -1,5 +1,4 @@
-use Rattle.std.proofs.Common.{◌≡◌, ◌<◌, ◌^◌, min, ℕ, ◌+◌, ◌-◌, ◌*◌, ◌≤◌, arith}
-use Rattle.words.specs.Bytes.{number_in}
+use Rattle.std.proofs.Common.{◌≡◌, min, ◌-◌, arith}
 use Rattle.words.proofs.Places.{number_past, number-more, bound-more, power, all-read}
 use Rattle.words.proofs.bytes.le.Goals as goal
 
