@@ -719,7 +719,7 @@ export·x87-smt-write κ a r s x y = texts
 pub export·x87-smt-read : Determined₂ Rattle.export.proofs.smt.x87_smt_read.Reads.Post (λ κ x. x.1.0.now) (λ κ x. x.1.1.0.now)
 export·x87-smt-read κ a r s x y = readings
 
--- writing: what a sink takes is said in the words of its own relation, whatever the sink is ..
+-- writing: what a sink takes is said in the words of its own relation, whatever the sink and the text are ..
 
 pub writing·put-says : {M : Type 1} {𝓤 : Ura M} (𝓛 : Logic 𝓤) (S : _) (sink : _) (dict : _) (memory : _) (run : _) (κ : _) (a : _) (t : _) (e : _)
     → (Rattle.writing.specs.contracts.Sink.put.clauses S sink dict 𝓛 memory run κ a).ensures tt t e ≡ (connectives 𝓤).⌜◌⌝ (sink.took (a.1.0 ∷ []) a.0.now e.0.now)
@@ -737,15 +737,15 @@ pub writing·binary-says : {M : Type 1} {𝓤 : Ura M} (𝓛 : Logic 𝓤) (S : 
     → (Rattle.writing.specs.contracts.Sink.binary.clauses S sink dict 𝓛 memory run κ a).ensures tt t e ≡ (connectives 𝓤).⌜◌⌝ (sink.took (bits a.1.1.0 (val a.1.0)) a.0.now e.0.now)
 writing·binary-says 𝓛 S sink dict memory run κ a t e = refl
 
--- .. of a writer it is `Wrote`, and of a text too
+pub writing·write-says : {M : Type 1} {𝓤 : Ura M} (𝓛 : Logic 𝓤) (T : _) (S : _) (text : _) (texts : _) (sink : _) (dict : _) (memory : _) (run : _) (κ : _) (a : _) (t : _) (e : _)
+    → (Rattle.writing.specs.contracts.Text.write.clauses T S text texts sink dict 𝓛 memory run κ a).ensures tt t e ≡ (connectives 𝓤).⌜◌⌝ (sink.took (text.text a.0.now) a.1.0.now e.1.0.now)
+writing·write-says 𝓛 T S text texts sink dict memory run κ a t e = refl
+
+-- .. of a writer it is `Wrote`
 
 pub writing·writer-says : {M : Type 1} {𝓤 : Ura M} (𝓛 : Logic 𝓤) (memory : _) (run : _) (κ : _) (a : _) (t : _) (e : _)
     → (Rattle.writing.specs.contracts.WriterSink.put.clauses 𝓛 memory run κ a).ensures tt t e ≡ (connectives 𝓤).⌜◌⌝ (Wrote (a.1.0 ∷ []) a.0.now e.0.now)
 writing·writer-says 𝓛 memory run κ a t e = refl
-
-pub writing·write-says : {M : Type 1} {𝓤 : Ura M} (𝓛 : Logic 𝓤) (T : _) (text : _) (dict : _) (memory : _) (run : _) (κ : _) (a : _) (t : _) (e : _)
-    → (Rattle.writing.specs.contracts.Text.write.clauses T text dict 𝓛 memory run κ a).ensures tt t e ≡ (connectives 𝓤).⌜◌⌝ (Wrote (text.text a.0.now) a.1.0.now e.1.0.now)
-writing·write-says 𝓛 T text dict memory run κ a t e = refl
 
 pub writing·wrote : {text : List ℕ} {s t u : Writer} → InWords s → Wrote text s t → Wrote text s u → (t.at ≡ u.at) × (t.out.now ≡ u.out.now)
 writing·wrote = wrote

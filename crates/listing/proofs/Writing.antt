@@ -2,9 +2,7 @@
 use Rattle.std.proofs.Common.{◌≡◌, refl, sym, List, [], ◌∷◌, ◌++◌, append_assoc, ℕ, ◌+◌, ◌*◌, ◌<◌, add-one, arith, length, get_or, take}
 use Rattle.std.proofs.lemmas.List.{take_more}
 use Rattle.writing.specs.Bytes.{decimal}
-use Rattle.writing.specs.Put.{Wrote}
-use Rattle.writing.specs.Laws.{then}
-use Rattle.writing.specs.declared.Writer.{Writer}
+use Rattle.writing.specs.Sink.{SinkLaws}
 use Rattle.lists.specs.declared.State.{State}
 use Rattle.listing.specs.Listing.{places, state_line}
 use Rattle.listing.specs.Text.{numbers, line, rows}
@@ -19,10 +17,10 @@ pub numbers-take : (l : List ℕ) (i : ℕ) → i < length l → numbers (take i
 numbers-take l i h = sym (rw (take_more l i 0 h) (numbers-append (take i l) (get_or l i 0 ∷ [])))
 
 -- one row more
-pub row_on : (c : ℕ) (w : List ℕ) (i x y z u : ℕ) {o a b : Writer} → x ≡ get_or w (4 * i) 0 → y ≡ get_or w (4 * i + 1) 0 → z ≡ get_or w (4 * i + 2) 0 → u ≡ get_or w (4 * i + 3) 0
-    → Wrote (rows c w i) o a → Wrote (line c (i ∷ x ∷ y ∷ z ∷ u ∷ [])) a b → Wrote (rows c w (i + 1)) o b
+pub row_on : {S : Type 0} {took : List ℕ → S → S → Type 0} (laws : SinkLaws took) (c : ℕ) (w : List ℕ) (i x y z u : ℕ) {o a b : S} → x ≡ get_or w (4 * i) 0 → y ≡ get_or w (4 * i + 1) 0 → z ≡ get_or w (4 * i + 2) 0 → u ≡ get_or w (4 * i + 3) 0
+    → took (rows c w i) o a → took (line c (i ∷ x ∷ y ∷ z ∷ u ∷ [])) a b → took (rows c w (i + 1)) o b
 unfolding rows
-row_on c w i x y z u ex ey ez eu a b = rw (add-one i, ← ex, ← ey, ← ez, ← eu) (then a b)
+row_on laws c w i x y z u ex ey ez eu a b = rw (add-one i, ← ex, ← ey, ← ez, ← eu) (laws.then a b)
 
 -- a list of eight is its eight places
 eight : (l : List ℕ) → length l ≡ 8

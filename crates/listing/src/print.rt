@@ -1,12 +1,11 @@
 // The listing's text.
 ghost use Rattle.std.specs.Prelude.{◌≡◌, [], ◌∷◌, get_or, take, length};
-ghost use Rattle.writing.specs.Put.{Wrote};
 ghost use Rattle.listing.specs.Text.{numbers, line, rows};
 ghost use Rattle.listing.specs.Listing.{state_line, refusal_line, text_of};
 
 use crate::{Refused, Stop};
 use lists::State;
-use writing::{Sink, Text, Writer};
+use writing::{Sink, Text};
 
 // Where a run stopped, and its lists.
 #[derive(Clone, Copy)]
@@ -19,7 +18,7 @@ pub(crate) struct Listing<'a> {
 impl<'a> Text for Listing<'a> {
     ghost text = { λ l. text_of l.nodes.now l.statements.now l.run.now };
 
-    fn write(&self, out: &mut Writer<'_>) {
+    fn write<S: Sink>(&self, out: &mut S) {
         let state = &self.run.state;
         rows(out, b'n', self.nodes, state.nodes);
         rows(out, b's', self.statements, state.statements);
@@ -29,16 +28,16 @@ impl<'a> Text for Listing<'a> {
 }
 
 // A blank and a number.
-fn number(out: &mut Writer<'_>, v: u64)
-    ensures { Wrote (numbers (v ∷ [])) out.old out.new }
+fn number<S: Sink>(out: &mut S, v: u64)
+    ensures { S.took (numbers (v ∷ [])) out.old out.new }
 {
     out.put(b' ');
     out.decimal(v);
 }
 
 // A blank before each number.
-fn numbers(out: &mut Writer<'_>, values: &[u64])
-    ensures { Wrote (numbers values.now) out.old out.new }
+fn numbers<S: Sink>(out: &mut S, values: &[u64])
+    ensures { S.took (numbers values.now) out.old out.new }
 {
     for v in values {
         number(out, *v);
@@ -46,8 +45,8 @@ fn numbers(out: &mut Writer<'_>, values: &[u64])
 }
 
 // A letter, numbers, and the line's end.
-fn line(out: &mut Writer<'_>, letter: u8, values: &[u64])
-    ensures { Wrote (line letter values.now) out.old out.new }
+fn line<S: Sink>(out: &mut S, letter: u8, values: &[u64])
+    ensures { S.took (line letter values.now) out.old out.new }
 {
     out.put(letter);
     numbers(out, values);
@@ -55,8 +54,8 @@ fn line(out: &mut Writer<'_>, letter: u8, values: &[u64])
 }
 
 // One line for each of the first rows of a list; past its end all words are 0.
-fn rows(out: &mut Writer<'_>, letter: u8, words: &[u64], count: u32)
-    ensures { Wrote (rows letter words.now count) out.old out.new }
+fn rows<S: Sink>(out: &mut S, letter: u8, words: &[u64], count: u32)
+    ensures { S.took (rows letter words.now count) out.old out.new }
 {
     let word = |j: usize| -> u64
         ensures { result ≡ get_or words.entry.now j 0 }
@@ -72,8 +71,8 @@ fn rows(out: &mut Writer<'_>, letter: u8, words: &[u64], count: u32)
 }
 
 // A blank before each of the first places from the top.
-fn places(out: &mut Writer<'_>, slots: &[u32; 8], depth: u32)
-    ensures wrote { Wrote (numbers (take depth slots.now)) out.old out.new }
+fn places<S: Sink>(out: &mut S, slots: &[u32; 8], depth: u32)
+    ensures wrote { S.took (numbers (take depth slots.now)) out.old out.new }
     ensures eight { length slots.now ≡ 8 }
 {
     for slot in &slots[..slots.len().min(depth as usize)] {
@@ -82,8 +81,8 @@ fn places(out: &mut Writer<'_>, slots: &[u32; 8], depth: u32)
 }
 
 // Depth, inputs, temporaries, and the used places.
-fn state_line(out: &mut Writer<'_>, s: &State)
-    ensures { Wrote (state_line s.now) out.old out.new }
+fn state_line<S: Sink>(out: &mut S, s: &State)
+    ensures { S.took (state_line s.now) out.old out.new }
 {
     out.put(b'd');
     numbers(
@@ -95,8 +94,8 @@ fn state_line(out: &mut Writer<'_>, s: &State)
 }
 
 // A refusal's number and place, if there is one.
-fn refusal_line(out: &mut Writer<'_>, refused: Option<Refused>)
-    ensures { Wrote (refusal_line refused) out.old out.new }
+fn refusal_line<S: Sink>(out: &mut S, refused: Option<Refused>)
+    ensures { S.took (refusal_line refused) out.old out.new }
 {
     if let Some(r) = refused {
         line(out, b'r', &[r.number as u64, r.place as u64]);

@@ -1,6 +1,5 @@
 // The text of the marked nodes of a list, line by line.
-ghost use Rattle.std.specs.Prelude.{◌≡◌, ◌+◌, ◌*◌, List, ℕ, map, get_or, length};
-ghost use Rattle.writing.specs.Put.{Wrote};
+ghost use Rattle.std.specs.Prelude.{◌≡◌, ◌+◌, ◌*◌, ◌≤◌, List, ℕ, map, get_or, length};
 ghost use Rattle.smttext.specs.Fill.{filled};
 ghost use Rattle.smttext.specs.Terms.{float_text, term_text};
 ghost use Rattle.smttext.specs.Names.{name_of};
@@ -9,7 +8,7 @@ ghost use Rattle.smtwriter.specs.Inside.{hole_text, parts_of};
 
 use smttext::Part;
 use words::Wide;
-use writing::{Sink, Text, Writer};
+use writing::{Sink, Text};
 
 // A list of nodes, and the sorts and marks of those up to a root.
 #[derive(Clone, Copy)]
@@ -35,7 +34,7 @@ use Hole::{Decimal, Format, Name, Rounding, Sort};
 impl<'a> Text for Formula<'a> {
     ghost text = { λ f. parts_of f.nodes.now f.sorts.now f.marks.now };
 
-    fn write(&self, out: &mut Writer<'_>) {
+    fn write<S: Sink>(&self, out: &mut S) {
         self.part(out, Part::Declarations);
         self.part(out, Part::Definitions);
         self.part(out, Part::Assertions);
@@ -55,8 +54,8 @@ fn has_line(p: Part, kind: u64) -> bool
 
 impl<'a> Formula<'a> {
     // One part of the text.
-    fn part(&self, out: &mut Writer<'_>, p: Part)
-        ensures { Wrote (part p self.now.nodes.now self.now.sorts.now self.now.marks.now (length self.now.marks.now)) out.old out.new }
+    fn part<S: Sink>(&self, out: &mut S, p: Part)
+        ensures { S.took (part p self.now.nodes.now self.now.sorts.now self.now.marks.now (length self.now.marks.now)) out.old out.new }
     {
         for (i, mark) in self.marks.iter().enumerate() {
             if *mark == 1 && has_line(p, self.field(i as u64, 0)) {
@@ -66,8 +65,8 @@ impl<'a> Formula<'a> {
     }
 
     // The line of node i in a part.
-    fn line(&self, out: &mut Writer<'_>, p: Part, i: u64)
-        ensures { Wrote (line_in p self.now.nodes.now self.now.sorts.now i) out.old out.new }
+    fn line<S: Sink>(&self, out: &mut S, p: Part, i: u64)
+        ensures { S.took (line_in p self.now.nodes.now self.now.sorts.now i) out.old out.new }
     {
         match p {
             Part::Declarations => {
@@ -91,8 +90,8 @@ impl<'a> Formula<'a> {
     }
 
     // The term of node i.
-    fn term(&self, out: &mut Writer<'_>, i: u64)
-        ensures { Wrote (term_at self.now.nodes.now i) out.old out.new }
+    fn term<S: Sink>(&self, out: &mut S, i: u64)
+        ensures { S.took (term_at self.now.nodes.now i) out.old out.new }
     {
         let kind = self.field(i, 0);
         let (a, b, c) = (self.field(i, 1), self.field(i, 2), self.field(i, 3));
@@ -100,8 +99,8 @@ impl<'a> Formula<'a> {
     }
 
     // The term of a kind with the fields a, b, c.
-    fn term_of(&self, out: &mut Writer<'_>, kind: u64, a: u64, b: u64, c: u64)
-        ensures { Wrote (term_text kind a b c (name_of self.now.nodes.now a) (name_of self.now.nodes.now b) (name_of self.now.nodes.now c)) out.old out.new }
+    fn term_of<S: Sink>(&self, out: &mut S, kind: u64, a: u64, b: u64, c: u64)
+        ensures { S.took (term_text kind a b c (name_of self.now.nodes.now a) (name_of self.now.nodes.now b) (name_of self.now.nodes.now c)) out.old out.new }
     {
         let (x, y, z) = (Name(a), Name(b), Name(c));
         match kind {
@@ -123,8 +122,8 @@ impl<'a> Formula<'a> {
     }
 
     // The term of an operation on floats.
-    fn float_term(&self, out: &mut Writer<'_>, kind: u64, a: u64, b: u64, c: u64)
-        ensures { Wrote (float_text kind b c (name_of self.now.nodes.now a) (name_of self.now.nodes.now b)) out.old out.new }
+    fn float_term<S: Sink>(&self, out: &mut S, kind: u64, a: u64, b: u64, c: u64)
+        ensures { S.took (float_text kind b c (name_of self.now.nodes.now a) (name_of self.now.nodes.now b)) out.old out.new }
     {
         let (x, y) = (Name(a), Name(b));
         match kind {
@@ -144,22 +143,24 @@ impl<'a> Formula<'a> {
     }
 
     // A template, in which each `%` stands for the next hole.
-    fn fill(&self, out: &mut Writer<'_>, template: &[u8], holes: &[Hole])
-        ensures { Wrote (filled template.now (map (hole_text self.now.nodes.now) holes.now)) out.old out.new }
+    fn fill<S: Sink>(&self, out: &mut S, template: &[u8], holes: &[Hole])
+        ensures { S.took (filled template.now (map (hole_text self.now.nodes.now) holes.now)) out.old out.new }
     {
+        let mut written = 0;
         let mut rest = holes;
-        for b in template {
+        for (i, b) in template.iter().enumerate() {
             if *b == b'%' && !rest.is_empty() {
+                out.all(&template[written..i]);
                 self.hole(out, rest[0]);
+                written = i + 1;
                 rest = &rest[1..];
-            } else {
-                out.put(*b);
             }
         }
+        out.all(&template[written..]);
     }
 
-    fn hole(&self, out: &mut Writer<'_>, hole: Hole)
-        ensures { Wrote (hole_text self.now.nodes.now hole) out.old out.new }
+    fn hole<S: Sink>(&self, out: &mut S, hole: Hole)
+        ensures { S.took (hole_text self.now.nodes.now hole) out.old out.new }
     {
         match hole {
             Name(i) => smttext::name(out, i, self.field(i, 0), self.field(i, 1)),
@@ -172,10 +173,14 @@ impl<'a> Formula<'a> {
 
     // Word j of node i, 0 past the list's end.
     fn field(&self, i: u64, j: usize) -> u64
+        requires { j ≤ 3 }
         ensures { result ≡ get_or self.now.nodes.now (4 * i + j) 0 }
     {
-        let at = (i as usize).saturating_mul(4).saturating_add(j);
-        self.nodes.get(at).copied().unwrap_or(0)
+        // No list has 2^62 words, so the place of a node that is below the length does not overflow.
+        if i >= self.nodes.len() as u64 {
+            return 0;
+        }
+        self.nodes.get(4 * i as usize + j).copied().unwrap_or(0)
     }
 
     // The sort of node i, 0 past the table's end.

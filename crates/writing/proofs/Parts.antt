@@ -1,14 +1,11 @@
 -- A digit and a bit more.
-use mathlib.Core.Path.{◌≡◌, refl, sym, ◌∙◌}
-use mathlib.Core.List.{List, [], ◌∷◌, ◌++◌, append_assoc}
+use mathlib.Core.Path.{◌≡◌, refl}
+use mathlib.Core.List.{[], ◌∷◌, ◌++◌}
 use Prim.Native.Nat.{ℕ, zero, suc, ◌+◌, ◌-◌, ◌/◌, ◌%◌, ◌^◌, ◌≤◌, ◌<◌}
 use native.Mathlib.Nat.{pow-suc, div-one, div-div-eq-div-mul}
 use native.Mathlib.Omega.{arith}
 use borrow.Author.Tests.{lt-ltb, le-ltb}
-use lib.ListN.{length, take, drop, set}
-use lib.Seq.{take_all}
-use Rattle.std.proofs.lemmas.List.{drop-set}
-use Rattle.std.proofs.Common.{length-drop, length-set}
+use Rattle.std.proofs.Common.{⊎_elim, eq-zero-or-pos, true, false, ltb}
 use Rattle.words.specs.declared.Wide.{Wide}
 use Rattle.words.specs.Wide.{wide_of}
 use Rattle.writing.specs.Bytes.{digits, decimal, bits}
@@ -24,37 +21,30 @@ unfolding digits
 many zero v h l = absurd (h refl)
 many (suc k) v h l = let q : suc k - 1 ≡ k = omega arith in rw (le-ltb v 10 l, q)
 
--- the last digit goes in front of those that stand in the array d from place k on
-module _ (d : List ℕ) (v k : ℕ) (h : k ≤ length d) (z : 0 < k) where
-  some : k ≡ 0 → ⊥
-  some e = absurd (omega arith)
+-- one digit more than are needed changes nothing
+enough : (k v : ℕ) → 0 < k → v < 10 ^ k → digits (suc k) v ≡ digits k v
+unfolding digits
+enough zero v z h = absurd (omega arith)
+enough (suc k) v z h =
+    ⊎_elim
+    (λ (q : 10 - v ≡ 0).
+    let t : ltb v 10 ≡ false = le-ltb v 10 (omega arith) in
+    rw (t, enough k (v / 10) (some k v (omega arith) h) (omega (arith, pow-suc 10 k))) refl)
+    (λ (q : 0 < 10 - v). let t : ltb v 10 ≡ true = lt-ltb v 10 (omega arith) in rw t refl)
+    (eq-zero-or-pos (10 - v))
+  where
+    some : (k v : ℕ) → 10 ≤ v → v < 10 ^ suc k → 0 < k
+    some zero v m h = absurd (omega arith)
+    some (suc k) v m h = omega arith
 
-  behind : drop (k - 1) (set d (k - 1) (48 + v % 10)) ≡ (48 + v % 10) ∷ drop k d
-  behind = let q : k - 1 + 1 ≡ k = omega arith in drop-set d (k - 1) (48 + v % 10) (omega arith) ∙ rw q refl
+-- a number in decimal: of one digit, or of more
+pub one-digit : (v : ℕ) → v < 10 → (48 + v) ∷ [] ≡ decimal v
+unfolding decimal
+one-digit v h = few 20 v (λ e. absurd (omega arith)) h
 
-  pub digit_more : (v / 10 ≡ 0 → ⊥) → digits k v ++ drop k d ≡ digits (k - 1) (v / 10) ++ drop (k - 1) (set d (k - 1) (48 + v % 10))
-  digit_more n = rw (behind, ← many k v some (omega arith)) (append_assoc (digits (k - 1) (v / 10)) ((48 + v % 10) ∷ []) (drop k d))
-
-  digit-first : v / 10 ≡ 0 → digits k v ++ drop k d ≡ drop (k - 1) (set d (k - 1) (48 + v % 10))
-  digit-first n = let m : v % 10 ≡ v = omega arith in rw (behind, ← few k v some (omega arith), m) refl
-
-  -- .. and then all of them are there
-  pub written_digits : (n x : ℕ) → length d ≡ n → v / 10 ≡ 0 → decimal x ≡ digits k v ++ drop k d
-      → take (n - (k - 1)) (drop (k - 1) (set d (k - 1) (48 + v % 10))) ≡ decimal x
-  written_digits n x e q f =
-      let s = set d (k - 1) (48 + v % 10) in
-      take_all (n - (k - 1)) (drop (k - 1) s) (omega (arith, e, length-drop (k - 1) s, length-set d (k - 1) (48 + v % 10))) ∙ sym (f ∙ digit-first q)
-
--- a number that is left has one digit less
-pub smaller : (k v : ℕ) → 0 < k → v < 10 ^ k → v / 10 < 10 ^ (k - 1)
-smaller zero v z h = absurd (omega arith)
-smaller (suc k) v z h = let q : suc k - 1 ≡ k = omega arith in rw q (omega (arith, pow-suc 10 k))
-
--- .. and has one
-pub some-left : (k v : ℕ) → 0 < k → v < 10 ^ k → (v / 10 ≡ 0 → ⊥) → 0 < k - 1
-some-left zero v z h n = absurd (omega arith)
-some-left (suc zero) v z h n = absurd (n (omega arith))
-some-left (suc (suc k)) v z h n = omega arith
+pub more-digits : (v : ℕ) → 10 ≤ v → v < 2 ^ 64 → decimal (v / 10) ++ ((48 + v % 10) ∷ []) ≡ decimal v
+unfolding decimal
+more-digits v h w = rw (enough 19 (v / 10) (omega arith) (omega arith)) (many 20 v (λ e. absurd (omega arith)) h)
 
 -- the bits from bit i on are those from bit i + 1 on, and bit i
 bits-suc : (n i v : ℕ) → bits n (v / 2 ^ suc i) ++ ((48 + v / 2 ^ i % 2) ∷ []) ≡ bits (suc n) (v / 2 ^ i)

@@ -1,10 +1,11 @@
 -- Text that is written one part after the other.
-use Rattle.std.specs.Prelude.{◌≡◌, refl, Bool, true, false, cond, List, [], ◌∷◌, ◌++◌, ℕ, zero, suc, ◌+◌, ◌-◌, ◌/◌, ◌%◌, ◌≤◌, ◌<◌, min, ltb, length, set}
-use Rattle.std.proofs.Common.{sym, ap, ◌∙◌, ⊎_elim, add-zero, eq-zero-or-pos, arith, length-append}
-use Rattle.std.proofs.lemmas.List.Edits.{sets}
+use Rattle.std.specs.Prelude.{◌≡◌, refl, Bool, true, false, cond, List, [], ◌∷◌, ◌++◌, ℕ, zero, suc, ◌+◌, ◌-◌, ◌/◌, ◌%◌, ◌≤◌, ◌<◌, min, ltb, length, set, take, drop}
+use Rattle.std.proofs.Common.{sym, ap, ◌∙◌, ⊎_elim, add-zero, eq-zero-or-pos, arith, length-append, length-take, take-append-drop, drop-drop, append_assoc}
+use Rattle.std.proofs.lemmas.List.Edits.{sets, sets-eq}
+use Rattle.std.proofs.Math.ListN.{drop_of_length-le}
 use Rattle.std.proofs.Math.Seq.{length-sets, set_out}
 use Rattle.writing.specs.Bytes.{digits}
-use Rattle.writing.specs.Put.{Put, Wrote, largest}
+use Rattle.writing.specs.Put.{Counted, Put, Wrote, largest}
 use Rattle.writing.specs.Sink.{SinkLaws}
 use Rattle.writing.specs.declared.Writer.{Writer}
 
@@ -28,6 +29,32 @@ sets-min l i m a h =
     (λ (q : 0 < i - m). sets-out l (min i m) a (omega arith) ∙ sym (sets-out l i a (omega arith)))
     (eq-zero-or-pos (i - m))
 
+-- bytes that are stored from a place on, as many as there is room for
+module _ (l a : List ℕ) where
+  enough : (i n : ℕ) → n ≡ min (length a) (length l - i) → i ≤ length l → sets l i (take n a) ≡ sets l i a
+  enough i n e h =
+      let k : length (take n a) ≡ n = omega (arith, length-take n a) in
+      sym (ap (sets l i) (sym (take-append-drop n a)) ∙ sets-append l (take n a) (drop n a) i ∙
+      ⊎_elim
+      (λ (q : length a - n ≡ 0). let z : drop n a ≡ [] = drop_of_length-le a {i = n} (omega arith) in rw z)
+      (λ (q : 0 < length a - n). sets-out (sets l i (take n a)) (i + length (take n a)) (drop n a) (omega (arith, length-sets l i (take n a))))
+      (eq-zero-or-pos (length a - n)))
+
+  pub sets-room : (i p n : ℕ) → p ≡ min i (length l) → n ≡ min (length a) (length l - p) → take p l ++ (take n a ++ drop (p + n - p) (drop p l)) ≡ sets l i a
+  sets-room i p n e f =
+      let m : p + n - p ≡ n = omega arith in
+      ⊎_elim
+      (λ (q : length l - i ≡ 0).
+      let z : n ≡ 0 = omega arith in
+      rw (m, z) (take-append-drop p l ∙ sym (sets-out l i a (omega arith))))
+      (λ (q : 0 < length l - i).
+      let k : p ≡ i = omega arith in
+      let t : length (take n a) ≡ n = omega (arith, length-take n a) in
+      let w : sets l i (take n a) ≡ take i l ++ (take n a ++ drop (i + length (take n a)) l) =
+      sets-eq (take n a) l i (omega arith) ∙ append_assoc (take i l) (take n a) (drop (i + length (take n a)) l) in
+      rw (m, k, drop-drop n i l) (sym (rw t at w) ∙ enough i n (rw k at f) (omega arith)))
+      (eq-zero-or-pos (length l - i))
+
 -- one part, and then another
 module _ {a b : List ℕ} {at p r : ℕ} {l l' l'' : List ℕ} where
   both : Put a at p l l' → Put b p r l' l'' → Put (a ++ b) at r l l''
@@ -42,18 +69,20 @@ module _ {a b : List ℕ} {at p r : ℕ} {l l' l'' : List ℕ} where
 long : {a : List ℕ} {at r : ℕ} {l l' : List ℕ} → Put a at r l l' → length l' ≡ length l
 long {a} {at} {l = l} x = ap length x.bytes ∙ length-sets l at a
 
-pub nothing : (s : Writer) → Wrote [] s s
+nothing : (s : Writer) → Wrote [] s s
 nothing s = record { put = λ w. record { place = omega arith; bytes = refl; room = w.1 }; same = refl }
 
-pub then : {a b : List ℕ} {s t u : Writer} → Wrote a s t → Wrote b t u → Wrote (a ++ b) s u
+then : {a b : List ℕ} {s t u : Writer} → Wrote a s t → Wrote b t u → Wrote (a ++ b) s u
 then x y = record { put = λ w. let p = x.put w in both p (y.put (omega (arith, p.place), omega (arith, long p, w.1))); same = y.same ∙ x.same }
-
--- the same text by another name
-pub also : {a b : List ℕ} {s t : Writer} → a ≡ b → Wrote a s t → Wrote b s t
-also e x = rw (← e) x
 
 pub writer_laws : SinkLaws Wrote
 writer_laws = record { nothing = nothing; then = then }
+
+pub length_laws : SinkLaws Counted
+length_laws = record {
+  nothing = λ s h. omega arith;
+  then = λ {a} {b} x y h. let p = x h in let q = y (omega arith) in omega (arith, length-append a b);
+}
 
 either : (t : Bool) (a b : List ℕ) (n : ℕ) → length a ≤ n → length b ≤ n → length (cond t a b) ≤ n
 either true a b n h k = h

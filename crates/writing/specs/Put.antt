@@ -1,6 +1,7 @@
 -- What a function that writes text promises.
 use Rattle.std.specs.Prelude.{◌≡◌, List, ℕ, ◌+◌, ◌<◌, ◌≤◌, min, length}
 use Rattle.std.proofs.lemmas.List.Edits.{sets}
+use Rattle.writing.specs.declared.Length.{Length}
 use Rattle.writing.specs.declared.Writer.{Writer}
 
 -- the largest place
@@ -21,3 +22,7 @@ InWords w = (w.at ≤ largest) × (length w.out.now < largest)
 pub record Wrote (text : List ℕ) (old new : Writer) : Type 0 where
   pub put : InWords old → Put text old.at new.at old.out.now new.out.now
   pub same : new.out.ghost_name ≡ old.out.ghost_name
+
+-- a count goes on by the text's length, up to the largest
+abbrev pub Counted : List ℕ → Length → Length → Type 0
+Counted text old new = old.bytes ≤ largest → new.bytes ≡ min (old.bytes + length text) largest

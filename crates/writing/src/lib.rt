@@ -4,9 +4,9 @@
 ghost use Rattle.std.specs.Prelude.{List, [], ◌∷◌, ℕ};
 ghost use Rattle.words.specs.Wide.{val};
 ghost use Rattle.writing.specs.Bytes.{decimal, bits};
-ghost use Rattle.writing.specs.Laws.{writer_laws};
+ghost use Rattle.writing.specs.Laws.{length_laws, writer_laws};
 ghost use Rattle.writing.specs.Fits.{Fits};
-ghost use Rattle.writing.specs.Put.{Wrote};
+ghost use Rattle.writing.specs.Put.{Counted, Wrote};
 ghost use Rattle.writing.specs.Sink.{SinkLaws};
 
 use words::Wide;
@@ -19,10 +19,8 @@ pub trait Sink {
     fn put(&mut self, b: u8)
         ensures { took (b ∷ []) self.old self.new };
 
-    ghost laws: { SinkLaws took };
-
     // The bytes of a text.
-    final fn all(&mut self, text: &[u8])
+    fn all(&mut self, text: &[u8])
         ensures { took text.now self.old self.new }
     {
         for b in text {
@@ -30,22 +28,18 @@ pub trait Sink {
         }
     }
 
-    // A number in decimal.
+    ghost laws: { SinkLaws took };
+
+    // A number in decimal. A loop that fills an array from its end takes more code, and for the many numbers of one or two digits more instructions.
     final fn decimal(&mut self, v: u64)
         ensures { took (decimal v) self.old self.new }
     {
-        let mut digits = [0; 20];
-        let mut from = 20;
-        let mut rest = v;
-        loop {
-            from -= 1;
-            digits[from] = b'0' + (rest % 10) as u8;
-            rest /= 10;
-            if rest == 0 {
-                break;
-            }
+        if v < 10 {
+            self.put(b'0' + v as u8);
+        } else {
+            self.decimal(v / 10);
+            self.put(b'0' + (v % 10) as u8);
         }
-        self.all(&digits[from..]);
     }
 
     // The lowest n bits of a number, the highest first; those from bit 128 on are 0.
@@ -78,29 +72,53 @@ impl<'a> Sink for Writer<'a> {
         }
         self.at = self.at.saturating_add(1);
     }
+
+    // As much as there is room for, at once.
+    fn all(&mut self, text: &[u8]) {
+        let at = self.at.min(self.out.len());
+        let n = text.len().min(self.out.len() - at);
+        self.out[at..at + n].copy_from_slice(&text[..n]);
+        self.at = self.at.saturating_add(text.len());
+    }
+}
+
+// How long a text is, up to the largest length.
+#[derive(Clone, Copy)]
+struct Length {
+    bytes: usize,
+}
+
+impl Sink for Length {
+    ghost took = { Counted };
+
+    ghost laws = { length_laws };
+
+    fn put(&mut self, _b: u8) {
+        self.bytes = self.bytes.saturating_add(1);
+    }
+
+    fn all(&mut self, text: &[u8]) {
+        self.bytes = self.bytes.saturating_add(text.len());
+    }
 }
 
 // What can be written.
 pub trait Text {
     ghost text: { Self → List ℕ };
 
-    fn write(&self, out: &mut Writer<'_>)
-        ensures { Wrote (text self.now) out.old out.new };
+    fn write<S: Sink>(&self, out: &mut S)
+        ensures { S.took (text self.now) out.old out.new };
 }
 
 // Writes a text and gives its length, or writes nothing where it does not fit.
 pub fn fitted<T: Text>(text: &T, out: &mut [u8]) -> Option<usize>
     ensures { Fits (T.text text.now) result out.old out.new }
 {
-    let mut measure = Writer {
-        out: &mut [],
-        at: 0,
-    };
-    text.write(&mut measure);
-    let length = measure.at;
-    if out.len() < length {
+    let mut length = Length { bytes: 0 };
+    text.write(&mut length);
+    if out.len() < length.bytes {
         return None;
     }
     text.write(&mut Writer { out, at: 0 });
-    Some(length)
+    Some(length.bytes)
 }

@@ -206,10 +206,14 @@ fn expected(call: &Call) -> String {
         ),
         ("writing", _) | ("smttext", "name" | "format" | "sort") => {
             let contract = contract.replace(".proofs.", ".specs.contracts.");
-            let given = if name == "write" { "T text" } else { "S sink" };
+            let given = if name == "write" {
+                "T S text texts sink dict"
+            } else {
+                "S sink dict"
+            };
             let bound: String = given.split(' ').map(|g| format!("({g} : _) ")).collect();
             format!(
-                "{key}-says : {{M : Type 1}} {{𝓤 : Ura M}} (𝓛 : Logic 𝓤) {bound}(dict : _) (memory : _) (run : _) (κ : _) (a : _) (t : _) (e : _) → ({contract}.clauses {given} dict 𝓛 memory run κ a).ensures tt t e ≡ (connectives 𝓤).⌜◌⌝"
+                "{key}-says : {{M : Type 1}} {{𝓤 : Ura M}} (𝓛 : Logic 𝓤) {bound}(memory : _) (run : _) (κ : _) (a : _) (t : _) (e : _) → ({contract}.clauses {given} 𝓛 memory run κ a).ensures tt t e ≡ (connectives 𝓤).⌜◌⌝"
             )
         }
         _ => {

@@ -1,8 +1,7 @@
 use Rattle.std.proofs.Common.{append-nil}
 use Rattle.listing.specs.Text.{numbers}
-use Rattle.writing.specs.Laws.{then}
 use Rattle.listing.proofs.print.number.Goals as goal
 
 pub returns : goal.returns
 unfolding numbers
-returns c = rw append-nil (then c.put.ensures c.decimal.ensures)
+returns g c = rw append-nil (g.met.S.Sink.laws.then c.put.ensures c.decimal.ensures)

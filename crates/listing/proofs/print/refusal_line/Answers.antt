@@ -1,11 +1,10 @@
 use Rattle.listing.specs.Listing.{refusal_line}
-use Rattle.writing.specs.Laws.{nothing}
 use Rattle.listing.proofs.print.refusal_line.Goals as goal
 
 pub returns-in-Some : goal.returns-in-Some
 unfolding refusal_line
-returns-in-Some c = rw c.in-Some.is c.line.ensures
+returns-in-Some g c = rw c.in-Some.is c.line.ensures
 
 pub returns-in_default : goal.returns-in_default
 unfolding refusal_line
-returns-in_default c = rw c.in_default.is (nothing c.args.out.now)
+returns-in_default g c = rw c.in_default.is (g.met.S.Sink.laws.nothing c.args.out.now)
