@@ -331,9 +331,6 @@ details·why κ a r s x y = one
 pub details·detail : Determined Rattle.details.proofs.detail.Reads.Post
 details·detail κ a r s x y = one
 
-pub details·beside : Determined Rattle.details.proofs.beside.Reads.Post
-details·beside κ a r s x y = one
-
 -- records
 
 pub records·refusal-number : Determined Rattle.records.proofs.refusal_number.Reads.Post
@@ -578,6 +575,9 @@ moves·push-memory κ a r s x y = does-push r s
 
 pub lifter·number : Determined Rattle.lifter.proofs.number.Reads.Post
 lifter·number κ a r s x y = one
+
+pub lifter·detail : Determined Rattle.lifter.proofs.detail.Reads.Post
+lifter·detail κ a r s x y = one
 
 pub lifter·lift-classified : Determined₁ Rattle.lifter.proofs.lift_classified.Reads.Post (λ κ x. at_hand x.0.now)
 lifter·lift-classified κ a r s x y = does-lower r s

@@ -4,7 +4,7 @@
 ghost use Rattle.std.specs.Prelude.{◌≡◌, take};
 ghost use Rattle.forms.specs.Operands.{widths_of};
 ghost use Rattle.details.specs.Takes as takes;
-ghost use Rattle.details.specs.Why.{why_of, detail_for, beside_of};
+ghost use Rattle.details.specs.Why.{why_of, detail_for};
 ghost use Rattle.details.specs.Inside.{why_one, memory_why, both_of, alone_of, why_only, why_pair, why_by};
 
 use forms::{Classified, Instruction, One, Operand, Shape, Two, Widths};
@@ -187,14 +187,4 @@ pub fn detail(classified: Classified, insn: Instruction) -> u32
         Classified::BadText => 0,
         Classified::BadOperands => 0,
     }
-}
-
-// A detail stands beside answer 1 alone.
-pub fn beside(answer: u32, detail: u32) -> u32
-    ensures { result ≡ beside_of answer detail }
-{
-    if answer == 1 {
-        return detail;
-    }
-    0
 }

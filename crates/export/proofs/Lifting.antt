@@ -1,41 +1,34 @@
 -- What the lifter and the state's words come to, joined.
 use mathlib.Core.Path.{◌≡◌, refl, ap, ◌∙◌}
-use mathlib.Core.Bool.{Bool, true, false, cond, true≢false, false≢true}
+use mathlib.Core.Bool.{true, false, true≢false, false≢true}
 use mathlib.Core.List.{List, [], ◌∷◌}
 use Prim.Native.Nat.{ℕ, ◌≤◌, ◌<◌}
-use lib.ListN.{length, take}
+use lib.ListN.{length}
 use borrow.Author.Tests.{le-leb, lt-leb}
-use Rattle.texts.specs.Bytes.{all}
 use Rattle.forms.specs.declared.Instruction.{Instruction}
-use Rattle.records.specs.Numbers.{record_is, number_of, place_of}
+use Rattle.records.specs.Numbers.{record_is, place_of}
+use Rattle.records.specs.Numbers as records
 use Rattle.records.specs.declared.Taken.{Taken}
 use Rattle.records.specs.declared.Outcome.{Outcome}
 use Rattle.records.specs.declared.Outcome.TheVariants.{Record, End, Refused}
 use Rattle.forms.specs.declared.Classified.{Classified}
 use Rattle.forms.specs.Classify.{classify_of}
-use Rattle.lists.specs.Steps.{Built}
+use Rattle.std.specs.Prelude.{Result}
 use Rattle.memory.specs.declared.Site.{Site}
 use Rattle.memory.specs.Site.{site_of}
-use Rattle.details.specs.Why.{detail_for, beside_of}
-use Rattle.lifter.specs.Lift.{placed_of}
+use Rattle.details.specs.Why.{detail_for}
+use Rattle.lifter.specs.Lift.{number_of, detail_in}
+use Rattle.lifter.specs.declared.Lifted as lifter
+use Rattle.lifter.specs.declared.Refusal.{Refusal}
 use Rattle.lifter.proofs.Answers.{lift-told, placed-lift}
 use Rattle.export.specs.Flat.{insn_of, laid}
-use Rattle.export.specs.Lifts.{Lifted, Lifts, told, placed_in, lifted_in, lifted_of, unchanged, small_is, state_in}
+use Rattle.export.specs.Lifts.{Lifted, Lifts, Places, placed_in, lifted_in, lifted_of, unchanged, state_in}
 use Rattle.export.specs.Steps.{Steps, called_of, step_of, stepped_of, told_of}
 use Rattle.export.proofs.Calls.{tells, untold}
 
 -- a refusal leaves all that is lent
 stays : (r : ℕ) (s n t : List ℕ) → Lifts (unchanged r s n t) r s n t
 stays r s n t = record { answer = refl; state = refl; nodes = refl; statements = refl }
-
-module _ (c : Classified) (d : ℕ) (site : Site) (s n t : List ℕ) where
-  -- the detail stands beside answer 1 alone
-  placed-detail : beside_of (placed_in c d site s n t).answer d ≡ (placed_in c d site s n t).detail
-  placed-detail = way (all small_is (take 13 s)) (placed_of (state_in s) c d site n t)
-    where
-      way : (e : Bool) (b : Built) → beside_of (cond e (told (beside_of b.val d) b s n t) (unchanged 5 s n t)).answer d ≡ (cond e (told (beside_of b.val d) b s n t) (unchanged 5 s n t)).detail
-      way true b = refl
-      way false b = refl
 
 -- what a lift over the words of a state gives: the answer and what is left, and the detail
 abbrev pub Given : Lifted → ℕ → ℕ → List ℕ → List ℕ → List ℕ → Type 0
@@ -47,11 +40,11 @@ module _ (i : Instruction) (s n t : List ℕ) where
   placed-in = rw (placed-lift (state_in s) n t i, lift-told (state_in s) n t i)
 
   -- an instruction that is classified first
-  pub gives : (c : Classified) (d : ℕ) (site : Site) → c ≡ classify_of i → d ≡ detail_for c i → site ≡ site_of i → (r w : ℕ) (s' n' t' : List ℕ)
-      → Lifts (placed_in c d site s n t) r s' n' t' → w ≡ beside_of r d → Given (lifted_in i s n t) r w s' n' t'
-  gives c d site p q e r w s' n' t' l b =
+  pub gives : (c : Classified) (d : ℕ) (site : Site) → c ≡ classify_of i → d ≡ detail_for c i → site ≡ site_of i → {o : Result lifter.Lifted Refusal} {r w : ℕ} {s' n' t' : List ℕ}
+      → Places (placed_in c d site s n t) o s' n' t' → r ≡ number_of o → w ≡ detail_in o → Given (lifted_in i s n t) r w s' n' t'
+  gives c d site p q e l a b =
       let x = ap (λ (c : Classified). placed_in c (detail_for c i) (site_of i) s n t) p ∙ placed-in in
-      rw (← x, ← e, ← q) (l, b ∙ rw l.answer (placed-detail c d site s n t))
+      rw (← x, ← e, ← q, a, b) (l.lifts, l.detail-is)
 
 -- an instruction's bytes: lifted, or too few of them or of the state's words; and too few words to tell
 module _ (f s n t out : List ℕ) where
@@ -74,14 +67,14 @@ module _ (f s n t out : List ℕ) where
 
 -- one record: lifted, or not there to be lifted
 module _ (i : Instruction) (at : ℕ) (s n t out : List ℕ) (room : 3 ≤ length out) where
-  lifted : (o : Outcome) (r d : ℕ) (s' n' t' left : List ℕ) → record_is o ≡ true → Given (lifted_in i s n t) r d s' n' t'
+  lifted-record : (o : Outcome) (r d : ℕ) (s' n' t' left : List ℕ) → record_is o ≡ true → Given (lifted_in i s n t) r d s' n' t'
       → left ≡ laid out 0 (told_of r d (place_of o) at) → Steps 3 (step_of o i at s n t) s n t out r s' n' t' left
   unfolding step_of
-  lifted (Record c) r d s' n' t' left e g w = record { told = tells _ _ _ room g.0.answer (rw (← g.0.answer, ← g.1) w); lifts = rw (le-leb _ _ room) g.0 }
-  lifted (End c) r d s' n' t' left e g w = absurd (false≢true e)
-  lifted (Refused x p) r d s' n' t' left e g w = absurd (false≢true e)
+  lifted-record (Record c) r d s' n' t' left e g w = record { told = tells _ _ _ room g.0.answer (rw (← g.0.answer, ← g.1) w); lifts = rw (le-leb _ _ room) g.0 }
+  lifted-record (End c) r d s' n' t' left e g w = absurd (false≢true e)
+  lifted-record (Refused x p) r d s' n' t' left e g w = absurd (false≢true e)
 
-  quiet : (o : Outcome) (r : ℕ) (left : List ℕ) → record_is o ≡ false → r ≡ number_of o → left ≡ laid out 0 (place_of o ∷ 0 ∷ 0 ∷ [])
+  quiet : (o : Outcome) (r : ℕ) (left : List ℕ) → record_is o ≡ false → r ≡ records.number_of o → left ≡ laid out 0 (place_of o ∷ 0 ∷ 0 ∷ [])
       → Steps 3 (step_of o i at s n t) s n t out r s n t left
   unfolding step_of
   quiet (Record c) r left e d w = absurd (true≢false e)
@@ -92,9 +85,9 @@ module _ (x : Taken) (at : ℕ) (s n t out : List ℕ) where
   pub steps_on : 3 ≤ length out → 13 ≤ length s → (r d : ℕ) (s' n' t' left : List ℕ) → record_is x.outcome ≡ true → Given (lifted_in x.insn s n t) r d s' n' t'
       → left ≡ laid out 0 (told_of r d (place_of x.outcome) at) → Steps 3 (stepped_of x at s n t) s n t out r s' n' t' left
   unfolding stepped_of
-  steps_on k h r d s' n' t' left e g w = rw (le-leb _ _ h) (lifted x.insn at s n t out k x.outcome r d s' n' t' left e g w)
+  steps_on k h r d s' n' t' left e g w = rw (le-leb _ _ h) (lifted-record x.insn at s n t out k x.outcome r d s' n' t' left e g w)
 
-  pub stops : 3 ≤ length out → 13 ≤ length s → (r : ℕ) (left : List ℕ) → record_is x.outcome ≡ false → r ≡ number_of x.outcome
+  pub stops : 3 ≤ length out → 13 ≤ length s → (r : ℕ) (left : List ℕ) → record_is x.outcome ≡ false → r ≡ records.number_of x.outcome
       → left ≡ laid out 0 (place_of x.outcome ∷ 0 ∷ 0 ∷ []) → Steps 3 (stepped_of x at s n t) s n t out r s n t left
   unfolding stepped_of
   stops k h r left e d w = rw (le-leb _ _ h) (quiet x.insn at s n t out k x.outcome r left e d w)

@@ -8,7 +8,6 @@ ghost use Rattle.std.specs.Prelude.{◌≡◌, length};
 ghost use Rattle.smtgrammar.specs.State.{start, no_line};
 ghost use Rattle.smtgrammar.specs.Grammar.{done};
 ghost use Rattle.smttokens.specs.Taken.{columns, state};
-ghost use Rattle.lists.specs.Rows.{room_of};
 ghost use Rattle.smtreader.specs.Ran.{none, Starts, Ends};
 ghost use Rattle.smtreader.specs.Text.{ReadsText, TriesText};
 
@@ -119,14 +118,6 @@ fn run(
     Ran::Stop(at)
 }
 
-// How many rows so many words have room for.
-fn room(words: usize) -> usize
-    ensures { result ≡ room_of words }
-{
-    let n = words / 4;
-    if n < 65535 { n } else { 65535 }
-}
-
 // Reads a text into nodes over columns that stand for the empty tables.
 fn over(
     text: &[u8],
@@ -146,7 +137,7 @@ fn over(
         Ran::Long => Tried::Long,
         Ran::Stop(q) => Tried::Told(Reading::Stop(q)),
         Ran::Nodes(n) => {
-            if room(nodes.len()) < n {
+            if (lists::room(nodes.len()) as usize) < n {
                 return Tried::Told(Reading::Room);
             }
             rows::rows(nodes, kinds, fa, fb, fc, sorts);
