@@ -320,9 +320,6 @@ details·detail κ a r s x y = one
 pub details·number : Determined Rattle.details.proofs.number.Reads.Post
 details·number κ a r s x y = one
 
-pub details·beside : Determined Rattle.details.proofs.beside.Reads.Post
-details·beside κ a r s x y = one
-
 -- records
 
 pub records·Refusal·number : Determined Rattle.records.proofs.Refusal.number.Reads.Post
@@ -555,6 +552,9 @@ moves·push-memory κ a r s x y = does-push r s
 
 pub lifter·number : Determined Rattle.lifter.proofs.number.Reads.Post
 lifter·number κ a r s x y = one
+
+pub lifter·detail : Determined Rattle.lifter.proofs.detail.Reads.Post
+lifter·detail κ a r s x y = one
 
 pub lifter·lift-classified : Determined₁ Rattle.lifter.proofs.lift_classified.Reads.Post (λ κ x. at_hand x.0.now)
 lifter·lift-classified κ a r s x y = does-lower r s

@@ -4,7 +4,7 @@
 ghost use Rattle.std.specs.Prelude.{◌≡◌, length, Some};
 ghost use Rattle.forms.specs.Operands.{widths_of};
 ghost use Rattle.details.specs.Takes as takes;
-ghost use Rattle.details.specs.Why.{reason_of, reason_for, detail_number, beside_of};
+ghost use Rattle.details.specs.Why.{reason_of, reason_for, detail_number};
 ghost use Rattle.details.specs.Inside.{why_one, why_only, why_pair, why_by};
 
 use forms::{Classified, Instruction, One, Operand, Shape, Two, Widths, families};
@@ -148,11 +148,4 @@ pub fn number(detail: Option<Reason>) -> u32
         Some(detail) => detail as u32,
         None => 0,
     }
-}
-
-// A detail stands beside answer 1 alone.
-pub fn beside(answer: u32, detail: u32) -> u32
-    ensures { result ≡ beside_of answer detail }
-{
-    if answer == 1 { detail } else { 0 }
 }

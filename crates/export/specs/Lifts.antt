@@ -1,5 +1,5 @@
 -- What a lift over lent words answers and leaves in them.
-use Rattle.std.specs.Prelude.{◌≡◌, Bool, cond, ◌&&◌, List, [], ◌∷◌, ℕ, ◌%◌, leb, ltb, take, get_or}
+use Rattle.std.specs.Prelude.{◌≡◌, Bool, cond, ◌&&◌, List, [], ◌∷◌, ℕ, ◌%◌, leb, ltb, take, get_or, Result}
 use Rattle.texts.specs.Bytes.{all}
 use Rattle.lists.specs.Rows.{wrote}
 use Rattle.lists.specs.Steps.{Built}
@@ -8,7 +8,9 @@ use Rattle.forms.specs.declared.Instruction.{Instruction}
 use Rattle.forms.specs.Classify.{Classified}
 use Rattle.memory.specs.declared.Site.{Site}
 use Rattle.details.specs.Why.{beside_of, detail_of}
-use Rattle.lifter.specs.Lift.{placed_of, lift_of}
+use Rattle.lifter.specs.Lift.{placed_of, lift_of, number_of, detail_in}
+use Rattle.lifter.specs.declared.Lifted as lifter
+use Rattle.lifter.specs.declared.Refusal.{Refusal}
 use Rattle.export.specs.Flat.{insn_of, laid, at_least}
 
 -- a number of 32 bits
@@ -84,3 +86,8 @@ pub record Lifts (x : Lifted) (r : ℕ) (s n t : List ℕ) : Type 0 where
   pub state : s ≡ x.state
   pub nodes : n ≡ x.nodes
   pub statements : t ≡ x.statements
+
+-- .. of a lift that tells what it came to
+pub record Places (x : Lifted) (outcome : Result lifter.Lifted Refusal) (s n t : List ℕ) : Type 0 where
+  pub lifts : Lifts x (number_of outcome) s n t
+  pub detail-is : detail_in outcome ≡ x.detail

@@ -6,15 +6,16 @@ pub mod smt;
 mod state;
 pub mod values;
 
-ghost use Rattle.std.specs.Prelude.{◌≡◌, ◌≤◌, length, leb};
+ghost use Rattle.std.specs.Prelude.{◌≡◌, ◌≤◌, length};
 ghost use Rattle.records.specs.Format.{taken_at};
 ghost use Rattle.export.specs.Flat.{laid};
-ghost use Rattle.export.specs.Lifts.{Lifts, placed_in, kept_if};
+ghost use Rattle.export.specs.Lifts.{Places, placed_in};
 ghost use Rattle.export.specs.Steps.{Steps, called_of, stepped_of, told_of};
 ghost use Rattle.export.specs.Answers.{Classifies, Reasons, Affects, ReadsRecord};
 
 use forms::{Classified, Instruction};
-use lists::{LiftCtx, State};
+use lifter::{Lifted, Refusal};
+use lists::LiftCtx;
 use memory::Site;
 use reader::Reader;
 
@@ -138,18 +139,7 @@ pub fn x87_read_record(input: &[u8], at: usize, flat: &mut [u8], out: &mut [u64]
     read_in(input, at, flat, out)
 }
 
-// Writes the state's words, unless the lift was refused.
-fn keep(state: &mut [u64], s: State, answer: u32)
-    requires { 13 ≤ length state.old }
-    ensures { state.new ≡ kept_if (leb answer 2) s state.old }
-{
-    if answer <= 2 {
-        let w = state::words(s);
-        lay(state, &w);
-    }
-}
-
-// Lifts what `classify` answered over a state of 13 words and two lists of rows of four.
+// Lifts what `classify` answered over a state of 13 words, which are written unless the lift is refused, and two lists of rows of four.
 fn lift_in(
     classified: Classified,
     detail: u32,
@@ -157,21 +147,21 @@ fn lift_in(
     state: &mut [u64],
     nodes: &mut [u64],
     statements: &mut [u64],
-) -> u32
+) -> Result<Lifted, Refusal>
     requires { 13 ≤ length state.old }
-    ensures { Lifts (placed_in classified detail site state.old nodes.old statements.old) result state.new nodes.new statements.new }
+    ensures { Places (placed_in classified detail site state.old nodes.old statements.old) result state.new nodes.new statements.new }
 {
-    if state::small(state) {
-        let mut ctx = LiftCtx {
-            nodes,
-            statements,
-            state: state::read(state),
-        };
-        let answer = lifter::number(lifter::lift_classified(&mut ctx, classified, detail, site));
-        keep(state, ctx.state, answer);
-        return answer;
+    if !state::small(state) {
+        return Err(Refusal::BadState);
     }
-    5
+    let mut ctx = LiftCtx {
+        nodes,
+        statements,
+        state: state::read(state),
+    };
+    let lifted = lifter::lift_classified(&mut ctx, classified, detail, site)?;
+    lay(state, &state::words(ctx.state));
+    Ok(lifted)
 }
 
 // Lifts the instruction that stands in the first 177 bytes, and tells the detail of a decline. It is classified here, where it lies: to hand it on by value is to copy all of it.
@@ -191,9 +181,9 @@ pub fn x87_lift(
                 let classified = forms::classify(&insn);
                 let detail = details::number(details::detail(classified, &insn));
                 let site = Site::of(&insn);
-                let answer = lift_in(classified, detail, site, state, nodes, statements);
-                out[0] = details::beside(answer, detail) as u64;
-                return answer;
+                let outcome = lift_in(classified, detail, site, state, nodes, statements);
+                out[0] = lifter::detail(outcome) as u64;
+                return lifter::number(outcome);
             }
         }
         out[0] = 0;
@@ -232,9 +222,10 @@ fn lift_record_in(
             let classified = forms::classify(&insn);
             let detail = details::number(details::detail(classified, &insn));
             let site = Site::of(&insn);
-            let answer = lift_in(classified, detail, site, state, nodes, statements);
-            let detail = details::beside(answer, detail);
-            tell(out, answer, detail, reader.at, at);
+            let outcome = lift_in(classified, detail, site, state, nodes, statements);
+            let answer = lifter::number(outcome);
+            let told = lifter::detail(outcome);
+            tell(out, answer, told, reader.at, at);
             answer
         }
         Ok(None) => {

@@ -26,12 +26,16 @@ const EXTENDED: u32 = 15 * 256 + 64;
 // The rounding that x87 operations have at reset.
 const NEAREST: u32 = 0;
 
-// The flags by name.
-const CF: u32 = 0;
+// The flags by name; a condition reads the first three.
+pub const CF: u32 = 0;
 
-const PF: u32 = 1;
+pub const PF: u32 = 1;
 
-const ZF: u32 = 2;
+pub const ZF: u32 = 2;
+
+pub const OF: u32 = 3;
+
+pub const SF: u32 = 4;
 
 // A named stack slot.
 pub fn slot_var(ctx: &mut LiftCtx, number: u32, bits: u32) -> u32
@@ -47,7 +51,7 @@ pub fn fsw(ctx: &mut LiftCtx) -> u32
     ctx.node(4, 0, 0, 0)
 }
 
-// A flag: 0 CF, 1 PF, 2 ZF.
+// A flag by its number.
 pub fn flag(ctx: &mut LiftCtx, number: u32) -> u32
     ensures { Does (flag_of ctx.old.state number) ctx.old ctx.new result }
 {

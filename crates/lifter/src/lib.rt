@@ -6,7 +6,7 @@ ghost use Rattle.lists.specs.Rows.{room_of};
 ghost use Rattle.lists.specs.Steps.{Does};
 ghost use Rattle.moves.specs.Pushes.{pushed_number};
 ghost use Rattle.lifter.specs.Apply.{apply_x87_of};
-ghost use Rattle.lifter.specs.Lift.{lowered_of, fitting_of, placed_of, lift_of, Lifts, Lowers, number_of};
+ghost use Rattle.lifter.specs.Lift.{lowered_of, fitting_of, placed_of, lift_of, Lifts, Lowers, number_of, detail_in};
 
 use forms::{BadInstruction, Classified, Form, Instruction};
 use lists::{LiftCtx, X87Error};
@@ -44,6 +44,16 @@ pub fn number(outcome: Result<Lifted, Refusal>) -> u32
         Ok(Lifted::Declined(_)) => 1,
         Ok(Lifted::Overflowed) => 2,
         Err(refusal) => refusal as u32,
+    }
+}
+
+// The detail of a decline, and 0 beside all else.
+pub fn detail(outcome: Result<Lifted, Refusal>) -> u32
+    ensures { result ≡ detail_in outcome }
+{
+    match outcome {
+        Ok(Lifted::Declined(detail)) => detail,
+        _ => 0,
     }
 }
 

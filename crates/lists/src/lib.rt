@@ -13,6 +13,13 @@ pub const SLOT_BITS: u32 = 79;
 
 pub const STATUS_BITS: u32 = 16;
 
+// The kinds of the nodes that the state counts, and of a constant (the manual, section 4).
+const INPUT: u32 = 1;
+
+const TEMPORARY: u32 = 2;
+
+const CONSTANT: u64 = 6;
+
 // What a lift works on: the lent nodes and statements, and its state.
 #[derive(Drop)]
 pub struct LiftCtx<'a> {
@@ -77,7 +84,7 @@ impl LiftCtx<'_> {
     pub fn constant(&mut self, low: u64, high: u64, bits: u32) -> u32
         ensures { Does (node_of self.old.state 6 low high bits) self.old self.new result }
     {
-        self.wide(6, low, high, bits as u64)
+        self.wide(CONSTANT, low, high, bits as u64)
     }
 
     // One more statement.
@@ -93,7 +100,7 @@ impl LiftCtx<'_> {
     pub fn fresh(&mut self, bits: u32) -> u32
         ensures { Does (fresh_of self.old.state bits) self.old self.new result }
     {
-        let v = self.node(1, self.state.inputs, bits, 0);
+        let v = self.node(INPUT, self.state.inputs, bits, 0);
         self.state.inputs = self.state.inputs.saturating_add(1);
         v
     }
@@ -102,7 +109,7 @@ impl LiftCtx<'_> {
     pub fn temporary(&mut self, bits: u32) -> u32
         ensures { Does (temporary_of self.old.state bits) self.old self.new result }
     {
-        let v = self.node(2, self.state.temporaries, bits, 0);
+        let v = self.node(TEMPORARY, self.state.temporaries, bits, 0);
         self.state.temporaries = self.state.temporaries.saturating_add(1);
         v
     }

@@ -9,6 +9,13 @@ ghost use Rattle.memory.specs.Memory.{variable_of, read_operand_lowered_of, imag
 use forms::{ArithSrc, Instruction, MemFormat, RoundingMode};
 use lists::{LiftCtx, SLOT_BITS, STATUS_BITS};
 
+// The kinds of statements (the manual, section 4).
+const LOAD: u64 = 1;
+
+const STORE: u64 = 2;
+
+const SET_AX: u64 = 5;
+
 // What a lift looks at in an instruction beyond its form: its address, the address and slot numbers of its first operand, and
 // whether that operand is a register.
 #[derive(Clone, Copy)]
@@ -48,7 +55,7 @@ fn read_operand_lowered(ctx: &mut LiftCtx, site: Site, bits: u32) -> u32
     ensures { Does (read_operand_lowered_of ctx.old.state site bits) ctx.old ctx.new result }
 {
     let v = variable(ctx, site.slot, bits);
-    ctx.statement(1, v as u64, site.memory as u64, bits as u64);
+    ctx.statement(LOAD, v as u64, site.memory as u64, bits as u64);
     v
 }
 
@@ -92,9 +99,9 @@ fn write_dst(ctx: &mut LiftCtx, site: Site, value: u32, bits: u32)
     ensures { Does (write_dst_of ctx.old.state site value bits) ctx.old ctx.new 0 }
 {
     if site.register {
-        ctx.statement(5, value as u64, 0, 0);
+        ctx.statement(SET_AX, value as u64, 0, 0);
     } else {
-        ctx.statement(2, site.memory as u64, value as u64, bits as u64);
+        ctx.statement(STORE, site.memory as u64, value as u64, bits as u64);
     }
 }
 

@@ -6,20 +6,17 @@ ghost use Rattle.lists.specs.Steps.{Does};
 ghost use Rattle.moves.specs.Moves.{dropped_times, dropped_if, ordered_of, x87_arith_of, x87_compare_status_of, set_flag_of, x87_compare_flags_of, x87_conditional_move_of, x87_unary_of, store_slot_of};
 ghost use Rattle.moves.specs.Pushes.{decline_x87_of, land_of, push_const_of, push_slot_of, push_memory_of, pushed_number};
 
+use exprs::{CF, OF, PF, SF, ZF};
 use forms::{ArithSrc, MemFormat, UnaryOp, X87Arith, X87Condition};
 use lists::{LiftCtx, SLOT_BITS, State, X87Error};
 use memory::Site;
 
-// The flags by name.
-const CF: u64 = 0;
+// The kinds of statements (the manual, section 4).
+const SET_STATUS: u64 = 3;
 
-const PF: u64 = 1;
+const SET_FLAG: u64 = 4;
 
-const ZF: u64 = 2;
-
-const OF: u64 = 3;
-
-const SF: u64 = 4;
+const DECLINE: u64 = 6;
 
 fn drop_times(s: &mut State, pops: u8)
     ensures { s.new ≡ dropped_times pops s.old }
@@ -80,14 +77,14 @@ pub fn x87_compare_status(ctx: &mut LiftCtx, site: Site, src: ArithSrc, pops: u8
     let c0 = exprs::bool_or(ctx, unordered, less);
     let c3 = exprs::bool_or(ctx, unordered, equal);
     let status = exprs::x87_status_word(ctx, c0, unordered, c3);
-    ctx.statement(3, status as u64, 0, 0);
+    ctx.statement(SET_STATUS, status as u64, 0, 0);
     drop_times(&mut ctx.state, pops);
 }
 
-fn set_flag(ctx: &mut LiftCtx, flag: u64, node: u32)
+fn set_flag(ctx: &mut LiftCtx, flag: u32, node: u32)
     ensures { Does (set_flag_of ctx.old.state flag node) ctx.old ctx.new 0 }
 {
-    ctx.statement(4, flag, node as u64, 0);
+    ctx.statement(SET_FLAG, flag as u64, node as u64, 0);
 }
 
 // The outcome goes into the flags.
@@ -146,7 +143,7 @@ pub fn decline_x87(ctx: &mut LiftCtx, why: u32, address: u64, detail: u32)
     ensures { Does (decline_x87_of ctx.old.state why address detail) ctx.old ctx.new why }
 {
     ctx.state.havoc();
-    ctx.statement(6, why as u64, address, detail as u64);
+    ctx.statement(DECLINE, why as u64, address, detail as u64);
 }
 
 // A push, which declines where it overflows.

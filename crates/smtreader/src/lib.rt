@@ -7,7 +7,6 @@ mod rows;
 
 ghost use Rattle.std.specs.Prelude.{◌≡◌, ◌<◌, ◌≤◌, length};
 ghost use Rattle.smtgrammar.specs.Grammar.{done};
-ghost use Rattle.lists.specs.Rows.{room_of};
 ghost use Rattle.smtreader.specs.Inside.{tables_of, state_of};
 ghost use Rattle.smtreader.specs.Ran.{Starts, Ends, Wide};
 ghost use Rattle.smtreader.specs.Text.{ReadsText, TriesText};
@@ -67,7 +66,7 @@ impl Reader<'_> {
     {
         match self.run(text)? {
             Err(q) => Some(Err(ReadError::Stop(q))),
-            Ok(n) => if room(nodes.len()) < n {
+            Ok(n) => if (lists::room(nodes.len()) as usize) < n {
                 Some(Err(ReadError::Room))
             } else {
                 self.columns.rows(nodes);
@@ -75,14 +74,6 @@ impl Reader<'_> {
             },
         }
     }
-}
-
-// How many rows so many words have room for.
-#[tactic(auto, unfolding(lists::specs::Rows::room_of))]
-fn room(words: usize) -> usize
-    ensures { result ≡ room_of words }
-{
-    (words / 4).min(LIMIT)
 }
 
 // Reads a text into nodes, over columns of N entries, where those are enough.

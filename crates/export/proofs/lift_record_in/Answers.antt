@@ -6,7 +6,7 @@ use Rattle.export.proofs.lift_record_in.Goals as goal
 pub returns-in-Ok-Some : goal.returns-in-Ok-Some
 unfolding detail_for
 returns-in-Ok-Some c =
-    let g = gives _ _ _ _ _ _ _ c.classify-classified.ensures (c.number-detail.ensures ∙ ap detail_number c.detail.ensures) c.of-site.ensures _ _ _ _ _ c.lift_in-answer.ensures c.beside-detail.ensures in
+    let g = gives _ _ _ _ _ _ _ c.classify-classified.ensures (c.number-detail.ensures ∙ ap detail_number c.detail.ensures) c.of-site.ensures c.lift_in-outcome.ensures c.number-answer.ensures c.detail-told.ensures in
     steps_on _ _ _ _ _ c.requires.1 c.requires.0 (took _ c.record_at.ensures.0 c.new-reader.ensures.0 c.in-Ok-Some.is c.in-Ok-Some.field-0-is) _ _ _ _ _ _ g c.tell.ensures
 
 pub returns-in-Ok-None : goal.returns-in-Ok-None
