@@ -123,7 +123,7 @@ fn read_in(input: &[u8], at: usize, flat: &mut [u8], out: &mut [u64]) -> u32
     let o = t.outcome;
     let insn = t.insn;
     let there = answers::is_record(o);
-    let w = [answers::place(o) as u64, answers::bit(there)];
+    let w = [answers::place(o) as u64, u64::from(there)];
     lay(out, &w);
     write_if(flat, insn, there);
     answers::outcome_number(o)
