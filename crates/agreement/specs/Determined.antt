@@ -646,9 +646,6 @@ smtreader·read κ a r s x y = one-reading a.0.now a.1.0.now x.1.0.now y.1.0.now
 
 -- answers
 
-pub answers·bit : Determined Rattle.answers.proofs.bit.Reads.Post
-answers·bit κ a r s x y = one
-
 pub answers·number : Determined Rattle.answers.proofs.number.Reads.Post
 answers·number κ a r s x y = one
 

@@ -8,102 +8,15 @@ mod values;
 ghost use Rattle.std.specs.Prelude.{◌≡◌, [], ◌∷◌};
 ghost use Rattle.forms.specs.Numbers as forms;
 
-use forms::{
-    Affected, ArithSrc, BadInstruction, Classified, Effect, Form, MemFormat, RoundingMode, UnaryOp,
-    X87Arith, X87Condition,
-};
+use forms::{Affected, ArithSrc, BadInstruction, Classified, Effect, Form, X87Arith};
 
-pub fn bit(b: bool) -> u64
-    ensures { result ≡ forms.bit b }
-{
-    if b { 1 } else { 0 }
-}
-
-fn rounding(r: RoundingMode) -> u64
-    ensures { result ≡ forms.rounding_number r }
-{
-    match r {
-        RoundingMode::NearestTiesEven => 0,
-        RoundingMode::TowardZero => 1,
-    }
-}
-
-fn arith(op: X87Arith) -> u64
-    ensures { result ≡ forms.arith_number op }
-{
-    match op {
-        X87Arith::Add => 0,
-        X87Arith::Sub => 1,
-        X87Arith::Mul => 2,
-        X87Arith::Div => 3,
-    }
-}
-
-fn format(f: MemFormat) -> u64
-    ensures { result ≡ forms.format_number f }
-{
-    match f {
-        MemFormat::Float => 0,
-        MemFormat::Integer => 1,
-    }
-}
-
-fn condition(k: X87Condition) -> u64
-    ensures { result ≡ forms.condition_number k }
-{
-    match k {
-        X87Condition::Below => 0,
-        X87Condition::Equal => 1,
-        X87Condition::BelowOrEqual => 2,
-        X87Condition::Unordered => 3,
-        X87Condition::NotBelow => 4,
-        X87Condition::NotEqual => 5,
-        X87Condition::NotBelowOrEqual => 6,
-        X87Condition::NotUnordered => 7,
-    }
-}
-
-fn unary(op: UnaryOp) -> u64
-    ensures { result ≡ forms.unary_number op }
-{
-    match op {
-        UnaryOp::Abs => 0,
-        UnaryOp::Chs => 1,
-        UnaryOp::Sqrt => 2,
-        UnaryOp::RoundToIntegral => 3,
-    }
-}
-
-fn src_kind(s: ArithSrc) -> u64
-    ensures { result ≡ forms.src_kind s }
+// A source in three words: 0 for a place and 1 for memory, the place or the width, the format.
+fn source(s: ArithSrc) -> [u64; 3]
+    ensures { result ≡ forms.src_kind s ∷ forms.src_value s ∷ forms.src_format s ∷ [] }
 {
     match s {
-        ArithSrc::Slot(_) => 0,
-        ArithSrc::Memory {
-            width: _,
-            format: _,
-        } => 1,
-    }
-}
-
-fn src_value(s: ArithSrc) -> u64
-    ensures { result ≡ forms.src_value s }
-{
-    match s {
-        ArithSrc::Slot(i) => i as u64,
-        ArithSrc::Memory { width, format: _ } => width as u64,
-    }
-}
-
-fn src_format(s: ArithSrc) -> u64
-    ensures { result ≡ forms.src_format s }
-{
-    match s {
-        ArithSrc::Slot(_) => 0,
-        ArithSrc::Memory {
-            width: _,
-            format: f,
-        } => format(f),
+        ArithSrc::Slot(i) => [0, u64::from(i), 0],
+        ArithSrc::Memory { width, format } => [1, u64::from(width), format as u64],
     }
 }
 
@@ -118,15 +31,16 @@ fn row(k: u64, a: u64, b: u64, c: u64, d: u64) -> [u64; 8]
 fn arith_row(op: X87Arith, dst: u32, src: ArithSrc, reversed: bool, pop: bool) -> [u64; 8]
     ensures { result ≡ forms.words_of (Form.Arith op dst src reversed pop) }
 {
+    let [kind, value, format] = source(src);
     [
         6,
-        arith(op),
-        dst as u64,
-        src_kind(src),
-        src_value(src),
-        src_format(src),
-        bit(reversed),
-        bit(pop),
+        op as u64,
+        u64::from(dst),
+        kind,
+        value,
+        format,
+        u64::from(reversed),
+        u64::from(pop),
     ]
 }
 
@@ -136,18 +50,21 @@ fn words(form: Form) -> [u64; 8]
 {
     match form {
         Form::PushConst { low, high } => row(1, low, high, 0, 0),
-        Form::PushMemory {
-            width: w,
-            format: f,
-        } => row(2, w as u64, format(f), 0, 0),
-        Form::PushSlot(i) => row(3, i as u64, 0, 0, 0),
+        Form::PushMemory { width, format } => row(2, u64::from(width), format as u64, 0, 0),
+        Form::PushSlot(index) => row(3, u64::from(index), 0, 0, 0),
         Form::StoreMemory {
-            width: w,
-            format: f,
+            width,
+            format,
             pop,
-            rounding: r,
-        } => row(4, w as u64, format(f), bit(pop), rounding(r)),
-        Form::StoreSlot { index, pop } => row(5, index as u64, bit(pop), 0, 0),
+            rounding,
+        } => row(
+            4,
+            u64::from(width),
+            format as u64,
+            u64::from(pop),
+            rounding as u64,
+        ),
+        Form::StoreSlot { index, pop } => row(5, u64::from(index), u64::from(pop), 0, 0),
         Form::Arith {
             op,
             dst,
@@ -155,18 +72,15 @@ fn words(form: Form) -> [u64; 8]
             reversed,
             pop,
         } => arith_row(op, dst, src, reversed, pop),
-        Form::CompareStatus { src: s, pops } => row(
-            7,
-            src_kind(s),
-            src_value(s),
-            src_format(s),
-            pops as u64,
-        ),
-        Form::CompareFlags { src, pop } => row(8, src as u64, bit(pop), 0, 0),
-        Form::ConditionalMove { src, condition: k } => row(9, src as u64, condition(k), 0, 0),
+        Form::CompareStatus { src, pops } => {
+            let [kind, value, format] = source(src);
+            row(7, kind, value, format, u64::from(pops))
+        }
+        Form::CompareFlags { src, pop } => row(8, u64::from(src), u64::from(pop), 0, 0),
+        Form::ConditionalMove { src, condition } => row(9, u64::from(src), condition as u64, 0, 0),
         Form::StoreStatus => row(10, 0, 0, 0, 0),
-        Form::Exchange(i) => row(11, i as u64, 0, 0, 0),
-        Form::Unary(op) => row(12, unary(op), 0, 0, 0),
+        Form::Exchange(index) => row(11, u64::from(index), 0, 0, 0),
+        Form::Unary(op) => row(12, op as u64, 0, 0, 0),
     }
 }
 
@@ -208,13 +122,13 @@ fn flags(e: Effect) -> [u64; 7]
     ensures { result ≡ forms.flags_of e }
 {
     [
-        bit(e.defines_stack),
-        bit(e.defines_status),
-        bit(e.uses_stack),
-        bit(e.uses_status),
-        bit(e.defines_flags),
-        bit(e.reads_flags),
-        bit(e.writes_ax),
+        u64::from(e.defines_stack),
+        u64::from(e.defines_status),
+        u64::from(e.uses_stack),
+        u64::from(e.uses_status),
+        u64::from(e.defines_flags),
+        u64::from(e.reads_flags),
+        u64::from(e.writes_ax),
     ]
 }
 

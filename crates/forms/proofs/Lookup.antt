@@ -14,8 +14,8 @@ use Rattle.words.specs.Bytes.{little_endian}
 use Rattle.words.specs.Tests.{and_l, and_r}
 use Rattle.texts.specs.Bytes.{all}
 use Rattle.texts.specs.Letters.{lower_of, trim_of, same_letters}
-use Rattle.forms.specs.Inside.Keys.{lower_is, key_of, Entry, name_entry, family_in, code_in}
-use Rattle.forms.specs.Inside.Codes.{family_from}
+use Rattle.forms.specs.Inside.Keys.{lower_is, key_of, family_by}
+use Rattle.forms.specs.declared.names.Name as row
 use Rattle.forms.specs.Names.{Name, names, find, family_of}
 
 -- a letter of a name: small, and no zero byte
@@ -109,39 +109,27 @@ at_row t n h =
     (ltb-true 0 (length n.text) (and_r (leb (length n.text) 8) (ltb 0 (length n.text)) f)) in
     same_way (little_endian n.text) (key_of t) (same_letters t n.text) k
 
+-- the source's row of a name
+abbrev pub row_of : Name → row.Name
+row_of n = record { key = little_endian n.text; family = n.family }
+
 -- looking a text up by its key finds what its letters find, in any table of such names
-find-key : (t : List ℕ) (ns : List Name) → all name_is ns ≡ true → family_in (key_of t) (map name_entry ns) ≡ find t ns
+find-key : (t : List ℕ) (ns : List Name) → all name_is ns ≡ true → family_by (key_of t) (map row_of ns) ≡ find t ns
+unfolding family_by
 find-key t [] h = refl
 find-key t (n ∷ ns) h =
-    rw (at_row t n (and_l (name_is n) (all name_is ns) h), find-key t ns (and_r (name_is n) (all name_is ns) h))
+    rw (at_row t n (and_l (name_is n) (all name_is ns) h)) (way (same_letters t n.text) (find-key t ns (and_r (name_is n) (all name_is ns) h)))
+  where
+    rest : Option row.Name
+    rest = list.find (λ (r : row.Name). eqb r.key (key_of t)) (map row_of ns)
 
-pub found : (s : List ℕ) → family_in (key_of (trim_of s)) (map name_entry names) ≡ family_of s
+    way : (e : Bool) → option_map (λ (r : row.Name). r.family) rest ≡ find t ns → option_map (λ (r : row.Name). r.family) (cond e (Some (row_of n)) rest) ≡ cond e (Some n.family) (find t ns)
+    way true h = refl
+    way false h = h
+
+pub found : (s : List ℕ) → family_by (key_of (trim_of s)) (map row_of names) ≡ family_of s
 unfolding family_of
 found s = find-key (trim_of s) names names-rule
-
--- the rows of the source's two columns
-abbrev entries : List ℕ → List ℕ → List Entry
-entries [] codes = []
-entries (k ∷ keys) [] = []
-entries (k ∷ keys) (c ∷ codes) = record { key = k; family = family_from c } ∷ entries keys codes
-
-code-family : (x : ℕ) (keys codes : List ℕ) → option_map family_from (code_in x keys codes) ≡ family_in x (entries keys codes)
-unfolding code_in family_from
-code-family x [] codes = refl
-code-family x (k ∷ keys) [] = refl
-code-family x (k ∷ keys) (c ∷ codes) = split (eqb k x) (code-family x keys codes)
-  where
-    rest : Option (ℕ × ℕ)
-    rest = list.find (λ p. eqb p.0 x) (list.zip keys codes)
-
-    split : (e : Bool) → option_map family_from (option_map (λ p. p.1) rest) ≡ family_in x (entries keys codes)
-        → option_map family_from (option_map (λ p. p.1) (cond e (Some (k, c)) rest)) ≡ cond e (Some (family_from c)) (family_in x (entries keys codes))
-    split true h = refl
-    split false h = h
-
--- columns whose rows are those of the names find what they find
-pub code-rule : (keys codes : List ℕ) → entries keys codes ≡ map name_entry names → (x : ℕ) → option_map family_from (code_in x keys codes) ≡ family_in x (map name_entry names)
-code-rule keys codes e x = code-family x keys codes ∙ ap (family_in x) e
 
 -- the number of a short text is small
 bound : (l : List ℕ) (k : ℕ) → length l ≤ k → all lower_is l ≡ true → little_endian (map lower_of l) < 256 ^ k

@@ -1,3 +1,2 @@
 -- How the code does it: no public promise rests on this.
 pub mod Keys
-pub mod Codes

@@ -4,11 +4,11 @@
 pub mod families;
 pub mod names;
 
-ghost use Rattle.std.specs.Prelude.{◌≡◌, ◌≤◌, take};
+ghost use Rattle.std.specs.Prelude.{◌≡◌};
 ghost use Rattle.texts.specs.Bytes.{all};
 ghost use Rattle.forms.specs.Operands.{ranged_is, spelled_is};
 ghost use Rattle.forms.specs.Classify.{classify_of};
-ghost use Rattle.forms.specs.Effects.{stack_of, status_of, touched_of, effect_of};
+ghost use Rattle.forms.specs.Effects.{touched_of, effect_of};
 
 use texts::Text;
 
@@ -292,45 +292,41 @@ pub fn classify(insn: &Instruction) -> Classified
     })
 }
 
-// The whole stack, both defined and used, and besides it the status word or the flags defined, or the flags read.
-fn stack(status: bool, flags: bool, reads: bool) -> Effect
-    ensures { result ≡ stack_of status flags reads }
-{
-    Effect {
-        defines_stack: true,
-        defines_status: status,
-        uses_stack: true,
-        uses_status: false,
-        defines_flags: flags,
-        reads_flags: reads,
-        writes_ax: false,
-    }
-}
+// The whole stack, both defined and used.
+const STACK: Effect = Effect {
+    defines_stack: true,
+    defines_status: false,
+    uses_stack: true,
+    uses_status: false,
+    defines_flags: false,
+    reads_flags: false,
+    writes_ax: false,
+};
 
-// A status store uses the status word, and writes `ax` where its operand is a register.
-fn status(register: bool) -> Effect
-    ensures { result ≡ status_of register }
-{
-    Effect {
-        defines_stack: false,
-        defines_status: false,
-        uses_stack: false,
-        uses_status: true,
-        defines_flags: false,
-        reads_flags: false,
-        writes_ax: register,
-    }
-}
-
-// What a form touches, its first operand being a register or not.
+// What a form touches, its first operand being a register or not: a status store writes `ax` where it is one.
 fn touched(form: Form, register: bool) -> Effect
     ensures { result ≡ touched_of form register }
 {
     match form {
-        Form::CompareStatus { .. } => stack(true, false, false),
-        Form::CompareFlags { .. } => stack(false, true, false),
-        Form::ConditionalMove { .. } => stack(false, false, true),
-        Form::StoreStatus => status(register),
+        Form::CompareStatus { .. } => Effect {
+            defines_status: true,
+            ..STACK
+        },
+        Form::CompareFlags { .. } => Effect {
+            defines_flags: true,
+            ..STACK
+        },
+        Form::ConditionalMove { .. } => Effect {
+            reads_flags: true,
+            ..STACK
+        },
+        Form::StoreStatus => Effect {
+            defines_stack: false,
+            uses_stack: false,
+            uses_status: true,
+            writes_ax: register,
+            ..STACK
+        },
         Form::PushConst { .. }
         | Form::PushMemory { .. }
         | Form::PushSlot(_)
@@ -338,7 +334,7 @@ fn touched(form: Form, register: bool) -> Effect
         | Form::StoreSlot { .. }
         | Form::Arith { .. }
         | Form::Exchange(_)
-        | Form::Unary(_) => stack(false, false, false),
+        | Form::Unary(_) => STACK,
     }
 }
 
