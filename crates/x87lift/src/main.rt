@@ -56,7 +56,7 @@ fn help(rt: &impl Print) -> io::Result<()> {
     Ok(())
 }
 
-// Reads until a buffer is full or the input ends, and gives how many bytes it put at the buffer's start.
+// Reads until a buffer is full or the input ends, and gives how many bytes it put at the buffer's start. It stands in replay too: std has none without a heap, and a crate for one function is no plainer.
 fn read_full(from: &mut impl Read, buf: &mut [u8]) -> io::Result<usize>
     ensures { ReadsAtMost result buf.new }
 {
