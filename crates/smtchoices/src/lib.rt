@@ -34,7 +34,7 @@ pub fn kind_at(kinds: &[u8], i: usize) -> usize
     kinds.get(i).copied().unwrap_or(0) as usize
 }
 
-// The sort of node i, 0 where there is none.
+// The sort of node i, 0 where there is none. One generic function for both would promise what `Into` gives, in its members' words: no plainer.
 pub fn sort_at(sorts: &[u16], i: usize) -> usize
     ensures { result ≡ get_or sorts.now i 0 }
 {

@@ -17,12 +17,11 @@ fn digit(x: &[u8]) -> usize {
 // The number that five digits from a place on mean.
 fn number(x: &[u8], at: usize) -> usize {
     let mut v = 0;
-    for i in at..x.len() {
-        let b = x[i];
+    for b in x.iter().skip(at) {
         if !b.is_ascii_digit() || 9999 < v {
             return v;
         }
-        v = v * 10 + (b - b'0') as usize;
+        v = v * 10 + (*b - b'0') as usize;
     }
     v
 }
