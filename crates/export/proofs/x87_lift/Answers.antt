@@ -8,7 +8,7 @@ use Rattle.export.proofs.x87_lift.Goals.{then-flat-ge177+else-state-ge13, else-f
 pub returns-then-state-ge13 : goal.returns-then-state-ge13
 unfolding laid detail_for
 returns-then-state-ge13 c =
-    let g = gives _ _ _ _ _ _ _ c.classify-classified.ensures (c.number-detail.ensures ∙ ap detail_number c.detail.ensures) c.of-site.ensures c.lift_in-outcome.ensures c.number.ensures c.detail-2.ensures in
+    let g = gives _ _ _ _ _ _ _ c.classify-classified.ensures (c.number-detail.ensures ∙ ap detail_number c.detail.ensures) c.of-site.ensures c.lift_in-outcome.ensures c.number.ensures c.detail-then-state-ge13.ensures in
     from-flat _ _ _ _ _ c.if-out-ge1.true c.if-flat-ge177.true c.if-state-ge13.true _ _ _ _ _ _ _ c.read-insn.ensures g refl
 
 pub returns-then-out-ge1 : goal.returns-then-out-ge1
