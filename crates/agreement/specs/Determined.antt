@@ -2,7 +2,7 @@
 -- Any two answers of a public call that meet its contract are equal, and so are the words that they leave in each slice that the call is lent.
 -- Each line cites the contract itself, as the toolchain has it of the source: `Post` is what the call's `ensures` claims, at its lifetimes κ and its arguments a,
 -- of an answer (r, s) and of the parameters at exit (x, y), of which what is lent is its `now`
-use Rattle.std.specs.Prelude.{◌≡◌, refl, Bool, true, false, cond, Option, Result, Ok, Err, List, [], ◌∷◌, ℕ, ◌<◌}
+use Rattle.std.specs.Prelude.{◌≡◌, refl, Bool, true, false, cond, eqb, Option, Result, Ok, Err, List, [], ◌∷◌, ℕ, ◌<◌}
 use Rattle.std.proofs.Common.{arith, sym, ap, ◌∙◌}
 use seplogic.Ra.Ura.{Ura}
 use types.Logic.{Logic}

@@ -1,5 +1,5 @@
 -- The listing: nodes, statements, the state, and a refusal.
-use Rattle.std.specs.Prelude.{cond, List, [], ◌∷◌, ◌++◌, ℕ, eqb, get_or, take, Option, Some, None}
+use Rattle.std.specs.Prelude.{List, [], ◌∷◌, ◌++◌, ℕ, get_or, take, Option, Some, None}
 use Rattle.lists.specs.declared.State.{State}
 use Rattle.listing.specs.Text.{line, rows}
 use Rattle.listing.specs.declared.Stop.{Stop}
