@@ -66,7 +66,7 @@ module _ {a x : List ℕ} {at : ℕ} where
   then {b} e f = record { on = λ t h. rw (← append_assoc t a b) (f.on (t ++ a) (e.on t h)) }
 
   -- where not all was there, what is behind it does not matter
-  stops : (b : List ℕ) {f : ℕ} → Extends a x at (Err f) → Extends (a ++ b) x at (Err f)
+  pub stops : (b : List ℕ) {f : ℕ} → Extends a x at (Err f) → Extends (a ++ b) x at (Err f)
   stops b {f} e = record { on = λ t h. rw (← append_assoc t a b) (longer (t ++ a) (e.on t h)) }
     where
       longer : (t : List ℕ) → Part t x f → Part (t ++ b) x f

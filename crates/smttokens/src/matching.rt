@@ -1,7 +1,10 @@
 // How much of a text stands at the front of another: from the place where what is before it ends to its own end, or only so far.
 ghost use Rattle.std.specs.Prelude.{[], ◌∷◌};
-ghost use Rattle.writing.specs.Bytes.{digits, decimal};
+ghost use Rattle.writing.specs.Bytes.{decimal};
 ghost use Rattle.smttokens.specs.Matches.{Extends};
+ghost use Rattle.smttokens.specs.Follows.{Follows, front_laws};
+
+use writing::Sink;
 
 // One byte more.
 pub(crate) fn one(x: &[u8], at: usize, b: u8) -> Result<usize, usize>
@@ -25,23 +28,39 @@ pub(crate) fn all(x: &[u8], at: usize, text: &[u8]) -> Result<usize, usize>
     Ok(end)
 }
 
-// The digits of a number, at most k of them.
-fn digits(x: &[u8], at: usize, v: u64, k: usize) -> Result<usize, usize>
-    ensures { Extends (digits k v) x.now at result }
-{
-    if k == 0 {
-        return Ok(at);
+// The front of a text as what takes text: where what was held against it ends, or how far it reaches where not all of it is there.
+#[derive(Clone, Copy)]
+pub(crate) struct Front<'a> {
+    pub(crate) text: &'a [u8],
+    pub(crate) end: Result<usize, usize>,
+}
+
+impl<'a> Sink for Front<'a> {
+    ghost took = { Follows };
+
+    ghost laws = { front_laws };
+
+    fn put(&mut self, b: u8) {
+        if let Ok(at) = self.end {
+            self.end = one(self.text, at, b);
+        }
     }
-    if v < 10 {
-        return one(x, at, b'0' + v as u8);
+
+    fn all(&mut self, text: &[u8]) {
+        if let Ok(at) = self.end {
+            self.end = all(self.text, at, text);
+        }
     }
-    let end = digits(x, at, v / 10, k - 1)?;
-    one(x, end, b'0' + (v % 10) as u8)
 }
 
 // A number in decimal.
 pub(crate) fn decimal(x: &[u8], at: usize, v: u64) -> Result<usize, usize>
     ensures { Extends (decimal v) x.now at result }
 {
-    digits(x, at, v, 20)
+    let mut front = Front {
+        text: x,
+        end: Ok(at),
+    };
+    front.decimal(v);
+    front.end
 }

@@ -9,7 +9,7 @@ ghost use Rattle.smtgrammar.specs.Grammar.{size_at};
 ghost use Rattle.smtchoices.specs.Seen.{seen};
 ghost use Rattle.smttokens.specs.Matches.{Matches, Extends};
 
-use crate::matching::{all, decimal, one};
+use crate::matching::{Front, all, decimal, one};
 use smtchoices::{State, Tables};
 use smtgrammar::{part, stage};
 
@@ -27,43 +27,40 @@ fn is_declared(k: u64) -> bool
     k <= 5 || k == 26
 }
 
-// `x7_1_0` of a declared node, `n8` of a defined one.
+// The name of node i, of a kind and with a for its first field.
 fn name(x: &[u8], at: usize, i: u64, k: u64, a: u64) -> Result<usize, usize>
     ensures { Extends (name_from i k a) x.now at result }
 {
-    if is_declared(k) {
-        let p = one(x, at, b'x')?;
-        let q = decimal(x, p, i)?;
-        let r = one(x, q, b'_')?;
-        let s = decimal(x, r, k)?;
-        let t = one(x, s, b'_')?;
-        return decimal(x, t, a);
-    }
-    let p = one(x, at, b'n')?;
-    decimal(x, p, i)
+    let mut front = Front {
+        text: x,
+        end: Ok(at),
+    };
+    smttext::name(&mut front, i, k, a);
+    front.end
 }
 
 // Exponent and significand bits of a format.
 fn format(x: &[u8], at: usize, f: u64) -> Result<usize, usize>
     ensures { Extends (format_text f) x.now at result }
 {
-    let p = decimal(x, at, f / 256)?;
-    let q = one(x, p, b' ')?;
-    decimal(x, q, f % 256)
+    let mut front = Front {
+        text: x,
+        end: Ok(at),
+    };
+    smttext::format(&mut front, f);
+    front.end
 }
 
 // Bits by their width, a float by its format.
 fn sort(x: &[u8], at: usize, s: u64) -> Result<usize, usize>
     ensures { Extends (sort_text s) x.now at result }
 {
-    if s <= 80 {
-        let p = all(x, at, b"(_ BitVec ")?;
-        let q = decimal(x, p, s)?;
-        return one(x, q, b')');
-    }
-    let p = all(x, at, b"(_ FloatingPoint ")?;
-    let q = format(x, p, s)?;
-    one(x, q, b')')
+    let mut front = Front {
+        text: x,
+        end: Ok(at),
+    };
+    smttext::sort(&mut front, s);
+    front.end
 }
 
 // What opens a conversion to a float.
