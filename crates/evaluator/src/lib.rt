@@ -386,7 +386,7 @@ fn check_in<const N: usize>(nodes: &[u64], count: usize) -> Result<(), CheckErro
     table::fill(nodes, count, &mut t)
 }
 
-// Whether each of the first `count` nodes has a sort; else the first that has none.
+// Whether each of the first `count` nodes has a sort; else the first that has none. The count is the caller's: one over the rows is refused, so no slice is cut to it.
 pub fn check(nodes: &[u64], count: usize) -> Result<(), CheckError>
     ensures { result ≡ check_of nodes.now count }
 {

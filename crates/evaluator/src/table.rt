@@ -6,7 +6,7 @@ ghost use Rattle.evaluator.specs.Table.{Tables};
 
 use sorts::CheckError;
 
-// The sort of operand a of node n: 0 where it is not earlier, or where the node's kind has no such operand.
+// The sort of operand a of node n: 0 where it is not earlier, or where the node's kind has no such operand. A test beside a number and no Option, which each call would wrap for this to take apart.
 fn at(t: &[u16], n: usize, on: bool, a: u64) -> u16
     requires { n ≤ length t.now }
     ensures { result ≡ cond on (get_or (take n t.now) a 0) 0 }
@@ -30,7 +30,7 @@ fn of<const N: usize>(t: &[u16], n: usize, k: u64, a: u64, b: u64, c: u64) -> u6
     )
 }
 
-// The sort of node i, from the sorts of the earlier nodes: of each kind those of its operands.
+// The sort of node i, from the sorts of the earlier nodes: of each kind those of its operands. An arm a kind, and kinds as numbers: of a call with a constant kind the compiler keeps one arm of sort_of (docs/DECISIONS.md, 'A table is asked with a constant kind').
 fn node_sort(nodes: &[u64], t: &[u16], i: usize) -> u64
     requires { (4 * i + 4 ≤ length nodes.now) × (i ≤ length t.now) × (take i t.now ≡ sorts nodes.now i) }
     ensures { result ≡ row_sort nodes.now i (sorts nodes.now i) }

@@ -1,6 +1,7 @@
 // The expressions of x87 lifting: a node for each call of the Rust's `Expr` constructors, and what is built of them without the stack.
 // Each function adds to the nodes, and answers the number of the node that it built.
 // A constructor is a function by its name: one over an enum of them would name each kind twice, in its match and at each call.
+// A width and a format stay two parameters: they are two fields of a form, which definitions and theorems name.
 #![tactic(auto)]
 
 ghost use Rattle.std.specs.Prelude.{◌≡◌};
@@ -26,7 +27,7 @@ const EXTENDED: u32 = 15 * 256 + 64;
 // The rounding that x87 operations have at reset.
 const NEAREST: u32 = 0;
 
-// The flags by name; a condition reads the first three.
+// The flags by name; a condition reads the first three. Numbers, since flag is public and takes any.
 pub const CF: u32 = 0;
 
 pub const PF: u32 = 1;

@@ -13,6 +13,7 @@ ghost use Rattle.forms.specs.Effects.{touched_of, effect_of};
 use texts::Text;
 
 // An operand: kind 0 is a register (its text), 1 memory (its width, 0 where unknown; whether its address is known; the address number; the slot number, 0 for none), 2 any other. Fields of another kind are ignored.
+// Kind, known and slot are numbers, no enums and no Option: any is accepted, and a kind or known out of range is refused with 4, by the clause of classify.
 #[derive(Clone, Copy)]
 pub struct Operand {
     pub kind: u8,
@@ -24,6 +25,7 @@ pub struct Operand {
 }
 
 // An instruction: the operands past the count are ignored.
+// Of fixed memory, with a count beside: one over 3 is accepted, and refused with 4.
 #[derive(Clone, Copy)]
 pub struct Instruction {
     pub operands: [Operand; 3],
@@ -259,7 +261,7 @@ fn spelled(o: &Operand) -> bool
     o.kind != 0 || o.text.is_valid()
 }
 
-// Whether every operand is in range.
+// Whether every operand is in range. Two tests of one line each: one over the test would owe a closure's contract at each call.
 fn all_ranged(operands: &[Operand]) -> bool
     ensures { result ≡ all ranged_is operands.now }
 {

@@ -59,7 +59,7 @@ fn number(image: &[u8]) -> Wide
     }
 }
 
-// The ten bytes of a number.
+// The ten bytes of a number. Byte by byte, as the definition says them: to_le_bytes would be two parts of two words.
 fn put(image: &mut [u8], v: Wide)
     requires { 10 ≤ length image.old }
     ensures { image.new ≡ bytes_of 10 (val v) ++ drop 10 image.old }

@@ -17,7 +17,7 @@ const MOST_NODES: u32 = 46;
 
 const MOST_STATEMENTS: u32 = 5;
 
-// What a lift came to: all that the instruction does, or a decline, of which the first has a detail.
+// What a lift came to: all that the instruction does, or a decline, of which the first has a detail: a number, since lift_classified is public and takes any.
 #[derive(Clone, Copy, PartialEq, Eq)]
 pub enum Lifted {
     Modelled,
@@ -90,6 +90,7 @@ fn apply_x87(ctx: &mut LiftCtx, form: Form, site: Site) -> Result<(), X87Error>
     Ok(())
 }
 
+// What classify answered, its detail and the site stay three parameters: a struct would be made and taken apart in two crates, and the definitions are over the three.
 // What an instruction comes to, over lists of any length.
 fn lower(
     ctx: &mut LiftCtx,

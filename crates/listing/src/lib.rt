@@ -14,7 +14,7 @@ use print::Listing;
 use reader::Reader;
 use std::ops::ControlFlow;
 
-// A refusal's number, and its place in the input.
+// A refusal's number, and its place in the input. A number, as the listing's row has it: a reader's refusal, a lifter's, or 13.
 #[derive(Clone, Copy, Debug, PartialEq, Eq)]
 pub struct Refused {
     pub number: u32,

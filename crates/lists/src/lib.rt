@@ -13,7 +13,7 @@ pub const SLOT_BITS: u32 = 79;
 
 pub const STATUS_BITS: u32 = 16;
 
-// The kinds of the nodes that the state counts, and of a constant (the manual, section 4).
+// The kinds of the nodes that the state counts, and of a constant (the manual, section 4). Numbers, since node is public and takes any.
 const INPUT: u32 = 1;
 
 const TEMPORARY: u32 = 2;
@@ -29,6 +29,7 @@ pub struct LiftCtx<'a> {
 }
 
 // The state of a lift: the stack's places, of which place 0 is the top and the first `depth` are used, and the counts of what was added.
+// Of fixed memory, as the 13 words that C hands in have it: a depth over 8 is accepted, and refused as invalid.
 #[derive(Clone, Copy)]
 pub struct State {
     pub slots: [u32; 8],
@@ -127,6 +128,7 @@ impl LiftCtx<'_> {
         ensures { Does (ensure_of self.old.state index) self.old self.new 0 }
     {
         if index < 8 {
+            // The Rust's own loop: it counts nothing by hand.
             while self.state.depth <= index {
                 self.bottom();
             }

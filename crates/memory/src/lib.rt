@@ -9,7 +9,7 @@ ghost use Rattle.memory.specs.Memory.{variable_of, read_operand_lowered_of, imag
 use forms::{ArithSrc, Instruction, MemFormat, RoundingMode};
 use lists::{LiftCtx, SLOT_BITS, STATUS_BITS};
 
-// The kinds of statements (the manual, section 4).
+// The kinds of statements (the manual, section 4). Numbers, since statement is public and takes any.
 const LOAD: u64 = 1;
 
 const STORE: u64 = 2;

@@ -11,7 +11,7 @@ use forms::{ArithSrc, MemFormat, UnaryOp, X87Arith, X87Condition};
 use lists::{LiftCtx, SLOT_BITS, State, X87Error};
 use memory::Site;
 
-// The kinds of statements (the manual, section 4).
+// The kinds of statements (the manual, section 4). Numbers, since statement is public and takes any.
 const SET_STATUS: u64 = 3;
 
 const SET_FLAG: u64 = 4;
@@ -138,7 +138,7 @@ pub fn store_slot(ctx: &mut LiftCtx, index: u32, pop: bool)
     drop_if(&mut ctx.state, pop);
 }
 
-// A decline forgets the stack and says why, 1 or 2, where, and with which detail.
+// A decline forgets the stack and says why, 1 or 2, where, and with which detail. Why is a number, since this is public and takes any.
 pub fn decline_x87(ctx: &mut LiftCtx, why: u32, address: u64, detail: u32)
     ensures { Does (decline_x87_of ctx.old.state why address detail) ctx.old ctx.new why }
 {

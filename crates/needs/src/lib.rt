@@ -4,7 +4,7 @@
 ghost use Rattle.std.specs.Prelude.{◌≡◌, ◌+◌, ◌*◌, ◌≤◌, ◌<◌, length};
 ghost use Rattle.needs.specs.Needed.{arity, marked, spread, marked_from};
 
-// How many operands a node of a kind has: they are the first of its three words a, b, c.
+// How many operands a node of a kind has: they are the first of its three words a, b, c. A kind is a number, as in sorts: any word of a lent list is taken.
 #[tactic(auto, unfolding(crate::specs::Needed::arity))]
 pub fn arity(k: u64) -> u64
     ensures { result ≡ arity k }
@@ -17,7 +17,7 @@ pub fn arity(k: u64) -> u64
     }
 }
 
-// Marks a where it is an operand of node i: one that is not earlier is none.
+// Marks a where it is an operand of node i: one that is not earlier is none. A test beside a number and no Option, which each call would wrap for this to take apart.
 #[tactic(auto, unfolding(crate::specs::Needed::marked))]
 fn one(m: &mut [u8], i: usize, on: bool, a: u64)
     requires { i ≤ length m.old }

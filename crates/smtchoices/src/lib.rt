@@ -52,6 +52,7 @@ pub fn format_of(w: usize) -> usize
     }
 }
 
+// Kinds, sorts, stages and choices are numbers: the definitions of the grammar compare them, and ok_at takes any.
 #[tactic(auto, unfolding(smtgrammar::specs::Allowed::line_ok, smtgrammar::specs::Allowed::kind_ok, smtgrammar::specs::Allowed::number_ok, smtgrammar::specs::Allowed::digit_ok, smtgrammar::specs::Allowed::width_ok, smtgrammar::specs::Allowed::defined_ok, smtgrammar::specs::Allowed::sort_ok, smtgrammar::specs::Allowed::opening_ok, smtgrammar::specs::Allowed::sort_taken, smtgrammar::specs::Allowed::word_ok, smtgrammar::specs::Allowed::first_ok, smtgrammar::specs::Allowed::place_ok, smtgrammar::specs::Allowed::ok_at))]
 impl State<'_> {
     // The part that a line is of.

@@ -4,7 +4,7 @@
 pub mod part;
 pub mod stage;
 
-// Numbers of nodes are below the limit, which stands for 'none' as well.
+// Numbers of nodes are below the limit, which stands for 'none' as well, and is no Option: the definitions compare it with numbers, and ok_at takes any.
 pub const LIMIT: usize = 65535;
 
 // Between two lines.

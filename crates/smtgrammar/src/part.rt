@@ -1,4 +1,4 @@
-// The parts of a text, in their order, and what begins a line of each.
+// The parts of a text, in their order, and what begins a line of each. Numbers, as the stages are.
 pub const DECLARES: usize = 0;
 
 pub const DEFINES: usize = 1;

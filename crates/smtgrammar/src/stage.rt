@@ -1,4 +1,4 @@
-// Which choice comes next in a line: a line takes any number, of which a larger one stands for the last.
+// Which choice comes next in a line: a line takes any number, of which a larger one stands for the last. So they are no enum: ok_at, take and size_at are public and take any, and the definitions compare them.
 
 // What begins a line.
 pub const LINE: usize = 0;

@@ -6,7 +6,7 @@ ghost use Rattle.smtreader.specs.Inside.{tables_of, Rowed};
 use smtchoices::{kind_at, sort_at};
 use smtgrammar::LIMIT;
 
-// By number the kind, the three fields and the sort; by sort the lowest number that has it.
+// By number the kind, the three fields and the sort; by sort the lowest number that has it. Columns and no array of structs: that of the sorts serves for the ranks, and an array of structs would be cleared whole.
 #[derive(Drop)]
 pub(crate) struct Columns<'a> {
     pub(crate) kinds: &'a mut [u8],

@@ -40,6 +40,7 @@ impl Reader<'_> {
         ensures wide { Wide (length self.old.columns.kinds.now) (tables_of self.new.columns) }
     {
         let mut at = 0;
+        // The place goes on by a token's length: no iterator is plainer.
         while at < x.len() {
             match smttokens::take(&x[at..], &self.state()) {
                 Err(q) => return Some(Err(at + q)),

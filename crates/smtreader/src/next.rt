@@ -17,6 +17,7 @@ pub(crate) struct Reader<'a> {
     pub(crate) line: Line,
 }
 
+// Kinds, stages and choices are numbers, as in smtchoices.
 #[tactic(auto, unfolding(smtgrammar::specs::Next::declared, smtgrammar::specs::Next::defined, smtgrammar::specs::Next::asserted, smtgrammar::specs::Next::termed, smtgrammar::specs::Next::word, smtgrammar::specs::Next::opened, smtgrammar::specs::Next::digit, smtgrammar::specs::Next::begun, smtgrammar::specs::Next::numeral, smtgrammar::specs::Next::next_at))]
 impl Reader<'_> {
     // What the next choice is judged by.

@@ -20,7 +20,7 @@ fn ranked(ranks: &[u16], arity: u64, j: u64, v: u64) -> u64
     }
 }
 
-// Four words from a place on.
+// Four words from a place on. Four stores, as the promise has them, so that no proof is owed.
 fn put(nodes: &mut [u64], at: usize, kind: u64, a: u64, b: u64, c: u64)
     requires { at + 4 ≤ length nodes.old }
     ensures { nodes.new ≡ sets nodes.old at (kind ∷ a ∷ b ∷ c ∷ []) }
@@ -55,7 +55,7 @@ impl Columns<'_> {
         }
     }
 
-    // The first field of node i, 0 where there is none.
+    // The first field of node i, 0 where there is none. The tables of smttokens have the same: two structs, one line each.
     fn first_at(&self, i: usize) -> u64
         ensures { result ≡ get_or self.now.firsts.now i 0 }
     {

@@ -14,7 +14,7 @@ pub enum Part {
     Assertions,
 }
 
-// Kinds 1 to 5 and FpToIeeeBv are declared, the others defined.
+// Kinds 1 to 5 and FpToIeeeBv are declared, the others defined. A kind is a number, as in sorts: any word of a lent list is taken.
 pub fn is_declared(kind: u64) -> bool
     ensures { result ≡ declared_is kind }
 {

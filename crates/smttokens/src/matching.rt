@@ -1,4 +1,5 @@
 // How much of a text stands at the front of another: from the place where what is before it ends to its own end, or only so far.
+// The text and the place stay two parameters: the place goes back in the Result, of which Ok goes on and Err stops, and a cursor would have to say that beside.
 ghost use Rattle.std.specs.Prelude.{[], ◌∷◌};
 ghost use Rattle.writing.specs.Bytes.{decimal};
 ghost use Rattle.smttokens.specs.Matches.{Extends};

@@ -13,7 +13,7 @@ use crate::matching::{Front, all, decimal, one};
 use smtchoices::{State, Tables};
 use smtgrammar::{part, stage};
 
-// The first field of node i, 0 where there is none.
+// The first field of node i, 0 where there is none. The columns of the reader have the same: two structs, one line each.
 fn first_at(t: &Tables, i: usize) -> u64
     ensures { result ≡ get_or t.now.firsts.now i 0 }
 {

@@ -94,6 +94,3 @@ module _ {w t₀ t : List ℕ} {n : ℕ} {v : Result Unit CheckError} (enough : 
 module _ (k n : ℕ) (h : min n 65535 ≤ k) where
   pub long : Enough n (replicate k 0)
   long = omega (arith, length-replicate {A = ℕ} k 0)
-
-  pub unmarked : Clear n (replicate k 0)
-  unmarked = record { enough = long; clear = clear k }

@@ -98,7 +98,7 @@ impl<'a> Formula<'a> {
         self.term_of(out, kind, a, b, c);
     }
 
-    // The term of a kind with the fields a, b, c.
+    // The term of a kind with the fields a, b, c. A kind is a number, as in sorts: any word of a lent list is taken.
     fn term_of<S: Sink>(&self, out: &mut S, kind: u64, a: u64, b: u64, c: u64)
         ensures { S.took (term_text kind a b c (name_of self.now.nodes.now a) (name_of self.now.nodes.now b) (name_of self.now.nodes.now c)) out.old out.new }
     {

@@ -7,6 +7,7 @@ ghost use Rattle.texts.specs.Letters.{lower_of, blank_is, skip, cut, trim_of, sa
 ghost use Rattle.texts.specs.Places.{digits, number, signed, place_of};
 
 // A text by value: its first `len` bytes.
+// By value and of fixed memory, with a length beside: one over 32 is accepted, and refused with 3.
 #[derive(Clone, Copy)]
 pub struct Text {
     pub bytes: [u8; 32],
@@ -43,7 +44,7 @@ pub fn blank(b: u8) -> bool
     matches!(b, 9..=13 | b' ')
 }
 
-// The text without the blanks at its front.
+// The text without the blanks at its front. Not the library's trim_ascii_start: byte 11 is a blank here, and none there.
 fn trim_start(mut s: &[u8]) -> &[u8]
     ensures { result.now ≡ skip s.now }
 {
@@ -76,7 +77,7 @@ pub fn trim(s: &[u8]) -> &[u8]
     trim_end(trim_start(s))
 }
 
-// Whether two texts differ at most in the case of their letters.
+// Whether two texts differ at most in the case of their letters: by lower, as the definition says it, since of slices the library has no such test.
 pub fn eq_ignore_ascii_case(s: &[u8], t: &[u8]) -> bool
     ensures { result ≡ same_letters s.now t.now }
 {

@@ -11,12 +11,12 @@ use Rattle.words.specs.Wide.{wide_of}
 use Rattle.writing.specs.Bytes.{digits, decimal, bits}
 
 -- a number of one digit, and of more
-pub few : (k v : ℕ) → (k ≡ 0 → ⊥) → v < 10 → (48 + v) ∷ [] ≡ digits k v
+few : (k v : ℕ) → (k ≡ 0 → ⊥) → v < 10 → (48 + v) ∷ [] ≡ digits k v
 unfolding digits
 few zero v h l = absurd (h refl)
 few (suc k) v h l = rw (lt-ltb v 10 l)
 
-pub many : (k v : ℕ) → (k ≡ 0 → ⊥) → 10 ≤ v → digits (k - 1) (v / 10) ++ ((48 + v % 10) ∷ []) ≡ digits k v
+many : (k v : ℕ) → (k ≡ 0 → ⊥) → 10 ≤ v → digits (k - 1) (v / 10) ++ ((48 + v % 10) ∷ []) ≡ digits k v
 unfolding digits
 many zero v h l = absurd (h refl)
 many (suc k) v h l = let q : suc k - 1 ≡ k = omega arith in rw (le-ltb v 10 l, q)
@@ -51,13 +51,10 @@ bits-suc : (n i v : ℕ) → bits n (v / 2 ^ suc i) ++ ((48 + v / 2 ^ i % 2) ∷
 unfolding bits
 bits-suc n i v = rw (div-div-eq-div-mul v (2 ^ i) 2, pow-suc 2 i)
 
--- none at first, and all at last
+-- none at first
 pub bits_none : (n v : ℕ) → [] ≡ bits (n - n) v
 unfolding bits
 bits_none n v = let q : n - n ≡ 0 = omega arith in rw q
-
-pub bits-all : (n i v : ℕ) → i ≤ 0 → bits (n - i) (v / 2 ^ i) ≡ bits n v
-bits-all n i v h = let q : i ≡ 0 = omega arith in let e : n - 0 ≡ n = omega arith in rw (q, e, div-one)
 
 -- .. where bit i is taken from the two words of what is left
 pub bits-more : (n i v : ℕ) → i ≤ n → 0 < i → (r : Wide) (b : ℕ) → r ≡ wide_of (v / 2 ^ (i - 1)) → b ≡ r.lo
