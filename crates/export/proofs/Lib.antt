@@ -2,4 +2,3 @@ pub mod Places
 pub mod Calls
 pub mod Texts
 pub mod Lifting
-mod Every

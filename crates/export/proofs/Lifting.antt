@@ -24,7 +24,7 @@ use Rattle.lifter.proofs.Answers.{lift-told, placed-lift}
 use Rattle.export.specs.Flat.{insn_of, laid}
 use Rattle.export.specs.Lifts.{Lifted, Lifts, Places, placed_in, lifted_in, lifted_of, unchanged, state_in}
 use Rattle.export.specs.Steps.{Steps, called_of, step_of, stepped_of, told_of}
-use Rattle.export.proofs.Calls.{tells, untold}
+use Rattle.export.proofs.Calls.{tells}
 
 -- a refusal leaves all that is lent
 stays : (r : ℕ) (s n t : List ℕ) → Lifts (unchanged r s n t) r s n t
@@ -62,9 +62,6 @@ module _ (f s n t out : List ℕ) where
   unfolding called_of lifted_of
   short-flat k h left w = rw (lt-leb _ _ h) (record { told = tells _ _ _ k refl w; lifts = rw (le-leb _ _ k) (stays 10 s n t) })
 
-  pub few_words : length out < 1 → Steps 1 (called_of f s n t) s n t out 10 s n t out
-  few_words k = record { told = untold _ _ _ k; lifts = rw (lt-leb _ _ k) (stays 10 s n t) }
-
 -- what a reader of these bytes took, or that it was refused
 module _ {r : Result (Option Instruction) records.Refusal} {n : ℕ} (at : ℕ) {a b : Bor (List ℕ)} (h : reading r n ≡ taken_at b.now at) (i : b ≡ a) where
   pub took : {w v : Option Instruction} → r ≡ Ok w → w ≡ v → got v n ≡ taken_at a.now at
@@ -94,6 +91,3 @@ module _ (x : Reading (Option Instruction)) (at : ℕ) (s n t out : List ℕ) wh
   pub few-state : 3 ≤ length out → length s < 13 → (left : List ℕ) → left ≡ laid out 0 (0 ∷ 0 ∷ 0 ∷ []) → Steps 3 (stepped_of x at s n t) s n t out 10 s n t left
   unfolding stepped_of
   few-state k h left w = rw (lt-leb _ _ h) (record { told = tells _ _ _ k refl w; lifts = rw (le-leb _ _ k) (stays 10 s n t) })
-
-  pub few-told : length out < 3 → Steps 3 (stepped_of x at s n t) s n t out 10 s n t out
-  few-told k = record { told = untold _ _ _ k; lifts = rw (lt-leb _ _ k) (stays 10 s n t) }

@@ -1,17 +1,18 @@
 -- Laws of bytes that stand at a place, read and written.
 use mathlib.Core.Path.{◌≡◌, refl, sym, ◌∙◌, ap}
 use mathlib.Core.List.{List, [], ◌∷◌, ◌++◌, append_assoc}
-use Prim.Native.Nat.{ℕ, ◌+◌, ◌<◌, ◌≤◌}
-use native.Mathlib.Numerals.{add-one}
+use Prim.Native.Nat.{ℕ, zero, suc, ◌+◌, ◌≤◌}
 use native.Mathlib.Omega.{arith}
-use lib.ListN.{length, take, drop, get_or, set, length-append}
-use lib.Seq.{take-suc, take_all, length-take-le, length-sets, drop-drop}
+use lib.ListN.{length, take, drop, set, length-append}
+use lib.Seq.{length-take-le, get_or-take, drop-drop}
+use Rattle.std.specs.Array.{IsFirstChunk}
 use Rattle.std.specs.Int.{from_le_bytes, to_le_bytes, w16, w32, w64}
 use Rattle.std.proofs.lemmas.List.Edits.{sets-eq}
-use Rattle.words.specs.Bytes.{number_in, bytes_of}
+use Rattle.words.specs.Bytes.{little_endian, number_in, bytes_at, bytes_of}
 use Rattle.records.proofs.Leaves.{bytes-taken}
 use Rattle.lists.proofs.Runs.{sets-append}
-use Rattle.export.specs.Flat.{laid}
+use Rattle.forms.specs.declared.Instruction.{Instruction}
+use Rattle.export.specs.Flat.{text_in, operand_in, insn_of, laid}
 
 -- a number is the bytes at a place, as std reads them at each width
 module _ (s : List ℕ) (p : ℕ) where
@@ -43,22 +44,52 @@ module _ (v : ℕ) where
       digit _ _ refl _ _ (digit _ _ refl _ _ (digit _ _ (omega arith) _ _ (digit _ _ (omega arith) _ _
       (digit _ _ (omega arith) _ _ (digit _ _ (omega arith) _ _ (digit _ _ (omega arith) _ _ (digit _ _ (omega arith) _ _ refl)))))))
 
-pub laid_none : (l : List ℕ) (p : ℕ) → l ≡ laid l p []
-unfolding laid
-laid_none l p = refl
+-- what stands in front is in the front
+module _ (k : ℕ) (l : List ℕ) where
+  bytes-front : (n p : ℕ) → p + n ≤ k → bytes_at (take k l) p n ≡ bytes_at l p n
+  bytes-front zero p h = refl
+  bytes-front (suc n) p h = rw (get_or-take k l p 0 (omega arith), bytes-front n (p + 1) (omega arith)) refl
 
-pub laid-length : (l : List ℕ) (p : ℕ) (b : List ℕ) → length (laid l p b) ≡ length l
-unfolding laid
-laid-length l p b = length-sets l p b
+  pub number-front : (n p : ℕ) → p + n ≤ k → number_in (take k l) p n ≡ number_in l p n
+  number-front n p h = ap little_endian (bytes-front n p h)
 
-pub laid_on : (l d b : List ℕ) (p i : ℕ) → i < length b → d ≡ laid l p (take i b) → set d (p + i) (get_or b i 0) ≡ laid l p (take (i + 1) b)
-unfolding laid
-laid_on l d b p i h e =
-    let z : length (take i b) ≡ i = length-take-le i b (omega arith) in
-    rw (add-one, take-suc b i 0 h, sets-append l (take i b) (get_or b i 0 ∷ []) p, z, e)
+  taken-front : (n p : ℕ) → p + n ≤ k → k ≤ length l → take n (drop p (take k l)) ≡ take n (drop p l)
+  taken-front n p h m = bytes-taken n (take k l) p (omega (arith, length-take-le k l m)) ∙ bytes-front n p h ∙ sym (bytes-taken n l p (omega arith))
 
-pub laid_end : (l d b : List ℕ) (p i : ℕ) → length b ≤ i → d ≡ laid l p (take i b) → d ≡ laid l p b
-laid_end l d b p i h e = e ∙ ap (laid l p) (take_all i b h)
+  pub text-front : (p : ℕ) → p + 33 ≤ k → k ≤ length l → text_in (take k l) p ≡ text_in l p
+  text-front p h m = rw (taken-front 32 (p + 1) (omega arith) m, get_or-take k l p 0 (omega arith)) refl
+
+  operand-front : (p : ℕ) → p + 45 ≤ k → k ≤ length l → operand_in (take k l) p ≡ operand_in l p
+  unfolding operand_in
+  operand-front p h m =
+      rw (
+        get_or-take k l p 0 (omega arith),
+        text-front (p + 1) (omega arith) m,
+        number-front 2 (p + 34) (omega arith),
+        get_or-take k l (p + 36) 0 (omega arith),
+        number-front 4 (p + 37) (omega arith),
+        number-front 4 (p + 41) (omega arith),
+      ) refl
+
+-- the instruction in the first 177 bytes
+pub insn-front : {l b : List ℕ} {i : Instruction} → IsFirstChunk l b 177 → i ≡ insn_of b → i ≡ insn_of l
+unfolding insn_of
+insn-front {l = l} f e =
+    let h = f.enough in
+    rw (e, f.same) (rw (
+      operand-front 177 l 42 (omega arith) h,
+      operand-front 177 l 87 (omega arith) h,
+      operand-front 177 l 132 (omega arith) h,
+      get_or-take 177 l 41 0 (omega arith),
+      text-front 177 l 8 (omega arith) h,
+      number-front 177 l 8 0 (omega arith),
+    ) refl)
+
+-- a word in the place of the first one, which was written before
+pub laid_again : (l : List ℕ) (v w : ℕ) → set (set l 0 v) 0 w ≡ laid l 0 (w ∷ [])
+unfolding laid
+laid_again [] v w = refl
+laid_again (x ∷ l) v w = refl
 
 -- bytes in the place of as many
 pub laid_over : (l b : List ℕ) (p k : ℕ) → p + k ≤ length l → length b ≡ k → take p l ++ (b ++ drop k (drop p l)) ≡ laid l p b

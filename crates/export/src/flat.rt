@@ -38,9 +38,8 @@ fn operand(s: &[u8], at: usize) -> Operand
     }
 }
 
-// The instruction that stands in the first 177 bytes.
-pub(crate) fn read(s: &[u8]) -> Instruction
-    requires { 177 ≤ length s.now }
+// The instruction that stands in 177 bytes.
+pub(crate) fn read(s: &[u8; 177]) -> Instruction
     ensures { result ≡ insn_of s.now }
 {
     Instruction {

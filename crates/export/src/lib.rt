@@ -27,79 +27,55 @@ pub(crate) fn lay(out: &mut [u64], w: &[u64])
     out[..w.len()].copy_from_slice(w);
 }
 
-// Classifies the instruction in bytes that are there, where there is room to tell.
-fn classify_in(flat: &[u8], out: &mut [u64]) -> u32
-    requires { (177 ≤ length flat.now) × (8 ≤ length out.old) }
-    ensures { Classifies flat.now out.old result out.new }
-{
-    let insn = flat::read(flat);
-    let answer = forms::classify(&insn);
-    let w = answers::fields(answer);
-    lay(out, &w);
-    answers::number(answer)
-}
-
 // Classifies the instruction that stands in the first 177 bytes, and tells its form's eight words.
 pub fn x87_classify(flat: &[u8], out: &mut [u64]) -> u32
     ensures { Classifies flat.now out.old result out.new }
 {
-    if 8 <= out.len() {
-        if 177 <= flat.len() {
-            return classify_in(flat, out);
-        }
-        let none = [0u64; 8];
-        lay(out, &none);
+    if out.len() < 8 {
         return 10;
     }
-    10
+    let Some(bytes) = flat.first_chunk() else {
+        lay(out, &[0; 8]);
+        return 10;
+    };
+    let answer = forms::classify(&flat::read(bytes));
+    lay(out, &answers::fields(answer));
+    answers::number(answer)
 }
 
 // Tells why the instruction that stands in the first 177 bytes is declined; the answer is that of `x87_classify`.
 pub fn x87_why(flat: &[u8], out: &mut [u64]) -> u32
     ensures { Reasons flat.now out.old result out.new }
 {
-    if 1 <= out.len() {
-        if 177 <= flat.len() {
-            let insn = flat::read(flat);
-            let answer = answers::number(forms::classify(&insn));
-            if answer == 1 {
-                out[0] = details::number(details::why(&insn)) as u64;
-                return 1;
-            }
-            out[0] = 0;
-            return answer;
-        }
-        out[0] = 0;
+    if out.len() < 1 {
         return 10;
     }
-    10
-}
-
-// The effect of the instruction in bytes that are there, where there is room to tell.
-fn effect_in(flat: &[u8], out: &mut [u64]) -> u32
-    requires { (177 ≤ length flat.now) × (7 ≤ length out.old) }
-    ensures { Affects flat.now out.old result out.new }
-{
-    let insn = flat::read(flat);
-    let answer = forms::x87_effect(&insn);
-    let w = answers::effect_fields(answer);
-    lay(out, &w);
-    answers::effect_number(answer)
+    out[0] = 0;
+    let Some(bytes) = flat.first_chunk() else {
+        return 10;
+    };
+    let insn = flat::read(bytes);
+    let answer = answers::number(forms::classify(&insn));
+    if answer == 1 {
+        out[0] = details::number(details::why(&insn)) as u64;
+    }
+    answer
 }
 
 // Tells the seven flags of what the instruction touches.
 pub fn x87_effect(flat: &[u8], out: &mut [u64]) -> u32
     ensures { Affects flat.now out.old result out.new }
 {
-    if 7 <= out.len() {
-        if 177 <= flat.len() {
-            return effect_in(flat, out);
-        }
-        let none = [0u64; 7];
-        lay(out, &none);
+    if out.len() < 7 {
         return 10;
     }
-    10
+    let Some(bytes) = flat.first_chunk() else {
+        lay(out, &[0; 7]);
+        return 10;
+    };
+    let answer = forms::x87_effect(&flat::read(bytes));
+    lay(out, &answers::effect_fields(answer));
+    answers::effect_number(answer)
 }
 
 // Reads the record at a place into bytes that are there, where there is room to tell.
@@ -174,22 +150,23 @@ pub fn x87_lift(
 ) -> u32
     ensures { Steps 1 (called_of flat.now state.old nodes.old statements.old) state.old nodes.old statements.old out.old result state.new nodes.new statements.new out.new }
 {
-    if 1 <= out.len() {
-        if 177 <= flat.len() {
-            if 13 <= state.len() {
-                let insn = flat::read(flat);
-                let classified = forms::classify(&insn);
-                let detail = details::number(details::detail(classified, &insn));
-                let site = Site::of(&insn);
-                let outcome = lift_in(classified, detail, site, state, nodes, statements);
-                out[0] = lifter::detail(outcome) as u64;
-                return lifter::number(outcome);
-            }
-        }
-        out[0] = 0;
+    if out.len() < 1 {
         return 10;
     }
-    10
+    out[0] = 0;
+    let Some(bytes) = flat.first_chunk() else {
+        return 10;
+    };
+    if state.len() < 13 {
+        return 10;
+    }
+    let insn = flat::read(bytes);
+    let classified = forms::classify(&insn);
+    let detail = details::number(details::detail(classified, &insn));
+    let site = Site::of(&insn);
+    let outcome = lift_in(classified, detail, site, state, nodes, statements);
+    out[0] = lifter::detail(outcome) as u64;
+    lifter::number(outcome)
 }
 
 // Tells the three words beside a record's answer.

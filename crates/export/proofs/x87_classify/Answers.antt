@@ -1,10 +1,17 @@
-use Rattle.std.proofs.Common.{refl}
+use Rattle.std.proofs.Common.{refl, le-leb}
+use Rattle.std.proofs.lemmas.Bool.{lt-leb}
 use Rattle.export.proofs.Calls.{tells}
+use Rattle.export.proofs.Places.{insn-front}
 use Rattle.export.specs.Answers.{classified}
-use borrow.Author.Tests.{lt-leb}
 use Rattle.export.proofs.x87_classify.Goals as goal
 
-pub returns-then-out-ge8 : goal.returns-then-out-ge8
+pub returns-in_default : goal.returns-in_default
 unfolding classified
-returns-then-out-ge8 c =
-    rw (lt-leb _ _ c.if-flat-ge177.false) (tells _ _ _ c.if-out-ge8.true refl c.lay.ensures)
+returns-in_default c = rw (lt-leb _ _ c.in_default.ensures.cases) (tells _ _ _ c.if-out-lt8.false refl c.lay.ensures)
+
+pub returns : goal.returns
+unfolding classified
+returns c =
+    let f = c.in-Some.ensures.cases in
+    let q = rw (insn-front f c.read.ensures) at c.classify-answer.ensures in
+    rw (le-leb _ _ f.enough) (tells _ _ _ c.if-out-lt8.false (rw q at c.number.ensures) (rw (← q, ← c.fields.ensures) c.lay-2.ensures))
