@@ -658,23 +658,22 @@ answers·effect-number κ a r s x y = one
 pub answers·effect-fields : Determined Rattle.answers.proofs.effect_fields.Reads.Post
 answers·effect-fields κ a r s x y = one
 
+pub answers·Refusal·number-says : {M : Type 1} {𝓤 : Ura M} (𝓛 : Logic 𝓤) (E : _) (says : _) (code : _) (memory : _) (run : _) (κ : _) (a : _) (t : _) (e : _)
+    → (Rattle.answers.specs.contracts.refusal.Refusal.number.clauses E says code 𝓛 memory run κ a).ensures tt t e ≡ (connectives 𝓤).⌜◌⌝ (t ≡ says.number a.0.now)
+answers·Refusal·number-says 𝓛 E says code memory run κ a t e = refl
+
+pub answers·Refusal·place-says : {M : Type 1} {𝓤 : Ura M} (𝓛 : Logic 𝓤) (E : _) (says : _) (code : _) (memory : _) (run : _) (κ : _) (a : _) (t : _) (e : _)
+    → (Rattle.answers.specs.contracts.refusal.Refusal.place.clauses E says code 𝓛 memory run κ a).ensures tt t e ≡ (connectives 𝓤).⌜◌⌝ (t ≡ says.place a.0.now)
+answers·Refusal·place-says 𝓛 E says code memory run κ a t e = refl
+
 pub answers·number-of : (T : _) (E : _) (t : _) (e : _) (says : _) (code : _) → Determined (Rattle.answers.proofs.refusal.number_of.Reads.Post T E t e says code)
 answers·number-of T E t e says code κ a r s x y = one
 
 pub answers·place-of : (T : _) (E : _) (t : _) (e : _) (says : _) (code : _) → Determined (Rattle.answers.proofs.refusal.place_of.Reads.Post T E t e says code)
 answers·place-of T E t e says code κ a r s x y = one
 
-pub answers·text-number : Determined Rattle.answers.proofs.smt.text_number.Reads.Post
-answers·text-number κ a r s x y = one
-
-pub answers·text-place : Determined Rattle.answers.proofs.smt.text_place.Reads.Post
-answers·text-place κ a r s x y = one
-
-pub answers·reading-number : Determined Rattle.answers.proofs.smt.reading_number.Reads.Post
-answers·reading-number κ a r s x y = one
-
-pub answers·reading-place : Determined Rattle.answers.proofs.smt.reading_place.Reads.Post
-answers·reading-place κ a r s x y = one
+pub answers·count-or-place : (E : _) (e : _) (says : _) (code : _) → Determined (Rattle.answers.proofs.refusal.count_or_place.Reads.Post E e says code)
+answers·count-or-place E e says code κ a r s x y = one
 
 -- export
 
@@ -718,25 +717,25 @@ export·x87-smt-read κ a r s x y = readings
 
 -- writing: what a sink takes is said in the words of its own relation, whatever the sink and the text are ..
 
-pub writing·put-says : {M : Type 1} {𝓤 : Ura M} (𝓛 : Logic 𝓤) (S : _) (sink : _) (dict : _) (memory : _) (run : _) (κ : _) (a : _) (t : _) (e : _)
+pub writing·Sink·put-says : {M : Type 1} {𝓤 : Ura M} (𝓛 : Logic 𝓤) (S : _) (sink : _) (dict : _) (memory : _) (run : _) (κ : _) (a : _) (t : _) (e : _)
     → (Rattle.writing.specs.contracts.Sink.put.clauses S sink dict 𝓛 memory run κ a).ensures tt t e ≡ (connectives 𝓤).⌜◌⌝ (sink.took (a.1.0 ∷ []) a.0.now e.0.now)
-writing·put-says 𝓛 S sink dict memory run κ a t e = refl
+writing·Sink·put-says 𝓛 S sink dict memory run κ a t e = refl
 
-pub writing·all-says : {M : Type 1} {𝓤 : Ura M} (𝓛 : Logic 𝓤) (S : _) (sink : _) (dict : _) (memory : _) (run : _) (κ : _) (a : _) (t : _) (e : _)
+pub writing·Sink·all-says : {M : Type 1} {𝓤 : Ura M} (𝓛 : Logic 𝓤) (S : _) (sink : _) (dict : _) (memory : _) (run : _) (κ : _) (a : _) (t : _) (e : _)
     → (Rattle.writing.specs.contracts.Sink.all.clauses S sink dict 𝓛 memory run κ a).ensures tt t e ≡ (connectives 𝓤).⌜◌⌝ (sink.took a.1.0.now a.0.now e.0.now)
-writing·all-says 𝓛 S sink dict memory run κ a t e = refl
+writing·Sink·all-says 𝓛 S sink dict memory run κ a t e = refl
 
-pub writing·decimal-says : {M : Type 1} {𝓤 : Ura M} (𝓛 : Logic 𝓤) (S : _) (sink : _) (dict : _) (memory : _) (run : _) (κ : _) (a : _) (t : _) (e : _)
+pub writing·Sink·decimal-says : {M : Type 1} {𝓤 : Ura M} (𝓛 : Logic 𝓤) (S : _) (sink : _) (dict : _) (memory : _) (run : _) (κ : _) (a : _) (t : _) (e : _)
     → (Rattle.writing.specs.contracts.Sink.decimal.clauses S sink dict 𝓛 memory run κ a).ensures tt t e ≡ (connectives 𝓤).⌜◌⌝ (sink.took (decimal a.1.0) a.0.now e.0.now)
-writing·decimal-says 𝓛 S sink dict memory run κ a t e = refl
+writing·Sink·decimal-says 𝓛 S sink dict memory run κ a t e = refl
 
-pub writing·binary-says : {M : Type 1} {𝓤 : Ura M} (𝓛 : Logic 𝓤) (S : _) (sink : _) (dict : _) (memory : _) (run : _) (κ : _) (a : _) (t : _) (e : _)
+pub writing·Sink·binary-says : {M : Type 1} {𝓤 : Ura M} (𝓛 : Logic 𝓤) (S : _) (sink : _) (dict : _) (memory : _) (run : _) (κ : _) (a : _) (t : _) (e : _)
     → (Rattle.writing.specs.contracts.Sink.binary.clauses S sink dict 𝓛 memory run κ a).ensures tt t e ≡ (connectives 𝓤).⌜◌⌝ (sink.took (bits a.1.1.0 (val a.1.0)) a.0.now e.0.now)
-writing·binary-says 𝓛 S sink dict memory run κ a t e = refl
+writing·Sink·binary-says 𝓛 S sink dict memory run κ a t e = refl
 
-pub writing·write-says : {M : Type 1} {𝓤 : Ura M} (𝓛 : Logic 𝓤) (T : _) (S : _) (text : _) (texts : _) (sink : _) (dict : _) (memory : _) (run : _) (κ : _) (a : _) (t : _) (e : _)
+pub writing·Text·write-says : {M : Type 1} {𝓤 : Ura M} (𝓛 : Logic 𝓤) (T : _) (S : _) (text : _) (texts : _) (sink : _) (dict : _) (memory : _) (run : _) (κ : _) (a : _) (t : _) (e : _)
     → (Rattle.writing.specs.contracts.Text.write.clauses T S text texts sink dict 𝓛 memory run κ a).ensures tt t e ≡ (connectives 𝓤).⌜◌⌝ (sink.took (text.text a.0.now) a.1.0.now e.1.0.now)
-writing·write-says 𝓛 T S text texts sink dict memory run κ a t e = refl
+writing·Text·write-says 𝓛 T S text texts sink dict memory run κ a t e = refl
 
 -- .. of a writer it is `Wrote`
 

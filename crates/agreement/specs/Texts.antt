@@ -16,6 +16,7 @@ use Rattle.smtreader.specs.declared.ReadError.{ReadError}
 use Rattle.smtreader.specs.declared.ReadError.TheVariants as not
 use Rattle.smtreader.proofs.Ranks.{rows_long}
 use Rattle.smtreader.specs.Numbers.{number_of, place_of}
+use Rattle.answers.specs.Refusal.{told_of, count_or}
 use Rattle.export.specs.Flat.{laid}
 use Rattle.export.specs.Texts.{ReadsText}
 
@@ -64,7 +65,7 @@ module _ (x : List ℕ) where
         rows w m n f = h.nodes ∙ rw (rows_are x w m n h.last f h.reads)
 
     -- an answer, by its number and the word beside it
-    way : (a : Result ℕ ReadError) → smtreader.ReadsText x nodes a nodes_left → Means x nodes (number_of a) (place_of a) nodes_left
+    way : (a : Result ℕ ReadError) → smtreader.ReadsText x nodes a nodes_left → Means x nodes (told_of number_of a) (count_or place_of a) nodes_left
     way (Ok k) h = formula k nodes_left (rows-mean k h)
     way (Err (not.Stop p)) h = rw h.nodes (stopped p (stops-there x p h.stops))
     way (Err not.Room) h =
@@ -83,7 +84,7 @@ means x nodes out r nodes_left out_left h f =
     let a = f.answered e in
     let n = rw e at a.told.answer in
     let t = rw e at a.told.told in
-    rw (n, t, told-first out (place_of a.says) h) (way x nodes nodes_left a.says a.read)
+    rw (n, t, told-first out (count_or place_of a.says) h) (way x nodes nodes_left a.says a.read)
 
 -- WRITTEN AND READ BACK: the text of a root of a list that passes is read as what the root needs
 pub read_back : (w : List ℕ) (n root : ℕ) → check_of w n ≡ Ok tt → root < n → ((j : ℕ) → get_or w j 0 < 2 ^ 64)

@@ -2,7 +2,6 @@
 #![tactic(auto)]
 
 pub mod refusal;
-pub mod smt;
 mod values;
 
 ghost use Rattle.std.specs.Prelude.{◌≡◌, [], ◌∷◌};

@@ -1,6 +1,6 @@
 // What a call tells that refuses: a number of the manual, section 7, and the node or place to blame.
 ghost use Rattle.std.specs.Prelude.{◌≡◌, ℕ};
-ghost use Rattle.answers.specs.Refusal.{told_of};
+ghost use Rattle.answers.specs.Refusal.{told_of, count_or};
 
 pub trait Refusal {
     ghost number: { Self → ℕ };
@@ -32,5 +32,15 @@ pub fn place_of<T, E: Refusal>(r: &Result<T, E>) -> usize
     match r {
         Ok(_) => 0,
         Err(e) => e.place(),
+    }
+}
+
+// The count that a call came to, or the node or place that its refusal blames.
+pub fn count_or_place<E: Refusal>(r: &Result<usize, E>) -> usize
+    ensures { result ≡ count_or E.place r.now }
+{
+    match r {
+        Ok(k) => *k,
+        Err(error) => error.place(),
     }
 }

@@ -6,12 +6,13 @@ use Rattle.smtwriter.specs.declared.WriteError.{WriteError}
 use Rattle.smtreader.specs.Text as smtreader
 use Rattle.smtreader.specs.Numbers as reading
 use Rattle.smtreader.specs.declared.ReadError.{ReadError}
+use Rattle.answers.specs.Refusal.{told_of, count_or}
 use Rattle.export.specs.Answers.{Said, Tells}
 use Rattle.export.specs.Flat.{at_least}
 
 -- an answer's number, and the count of bytes or the node that it names
 abbrev pub written_said : Result ℕ WriteError → Said
-written_said a = record { number = smtwriter.number_of a; words = smtwriter.place_of a ∷ [] }
+written_said a = record { number = told_of smtwriter.number_of a; words = count_or smtwriter.place_of a ∷ [] }
 
 -- what writing the text says, and the bytes after it
 pub record WritesText (w : List ℕ) (n root : ℕ) (text out : List ℕ) (r : ℕ) (text_left out_left : List ℕ) : Type 0 where
@@ -20,7 +21,7 @@ pub record WritesText (w : List ℕ) (n root : ℕ) (text out : List ℕ) (r : �
 
 -- an answer's number, and the count of nodes or the place that it names
 abbrev pub read_said : Result ℕ ReadError → Said
-read_said a = record { number = reading.number_of a; words = reading.place_of a ∷ [] }
+read_said a = record { number = told_of reading.number_of a; words = count_or reading.place_of a ∷ [] }
 
 -- what the text says, where there is a word to tell its number in
 pub record Answers (x nodes out : List ℕ) (r : ℕ) (nodes_left out_left : List ℕ) : Type 0 where

@@ -1,6 +1,8 @@
 // The calls on a root's text: a number of the manual, section 7, back, and what goes with it in the lent word.
 ghost use Rattle.export.specs.Texts.{WritesText, ReadsText};
 
+use answers::refusal::{count_or_place, number_of};
+
 // The text of a root of the first `count` nodes; the first word of `out` is the number of its bytes, the first node without a sort, or 0.
 pub fn x87_smt_write(
     nodes: &[u64],
@@ -13,8 +15,8 @@ pub fn x87_smt_write(
 {
     if 1 <= out.len() {
         let w = smtwriter::write(nodes, count, root, text);
-        out[0] = answers::smt::text_place(w) as u64;
-        return answers::smt::text_number(w);
+        out[0] = count_or_place(&w) as u64;
+        return number_of(&w);
     }
     10
 }
@@ -25,8 +27,8 @@ pub fn x87_smt_read(text: &[u8], nodes: &mut [u64], out: &mut [u64]) -> u32
 {
     if 1 <= out.len() {
         let t = smtreader::read(text, nodes);
-        out[0] = answers::smt::reading_place(t) as u64;
-        return answers::smt::reading_number(t);
+        out[0] = count_or_place(&t) as u64;
+        return number_of(&t);
     }
     10
 }

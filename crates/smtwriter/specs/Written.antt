@@ -34,23 +34,15 @@ pub record Writes (w : List ℕ) (n root : ℕ) (a : Result ℕ WriteError) (old
   pub answer : a ≡ written_of w n root (length old)
   pub bytes : new ≡ bytes_after a (text_of w root) old
 
--- the number of the answer, and the node or the count of bytes beside it
-abbrev pub error_number : WriteError → ℕ
-error_number (Fault i) = 8
-error_number Room = 10
-error_number NoRoot = 31
-error_number Short = 32
+-- the number of a refusal, and the node that it names
+abbrev pub number_of : WriteError → ℕ
+number_of (Fault i) = 8
+number_of Room = 10
+number_of NoRoot = 31
+number_of Short = 32
 
-abbrev pub number_of : Result ℕ WriteError → ℕ
-number_of (Ok k) = 0
-number_of (Err e) = error_number e
-
-abbrev pub error_place : WriteError → ℕ
-error_place (Fault i) = i
-error_place Room = 0
-error_place NoRoot = 0
-error_place Short = 0
-
-abbrev pub place_of : Result ℕ WriteError → ℕ
-place_of (Ok k) = k
-place_of (Err e) = error_place e
+abbrev pub place_of : WriteError → ℕ
+place_of (Fault i) = i
+place_of Room = 0
+place_of NoRoot = 0
+place_of Short = 0

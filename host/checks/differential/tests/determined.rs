@@ -93,7 +93,11 @@ fn public(krate: &str, path: &str, text: &str) -> Vec<Call> {
             .enumerate()
             .filter_map(|(k, p)| determined(k, p, within))
             .collect();
-        let named = |between: &str| within.map(|of| format!("{of}{between}")).unwrap_or_default();
+        let named = |between: &str| {
+            within
+                .map(|of| format!("{of}{between}"))
+                .unwrap_or_default()
+        };
         out.push(Call {
             krate: krate.to_owned(),
             name: format!("{}{name}", named("·")),
@@ -115,7 +119,7 @@ fn in_traits(krate: &str, path: &str, text: &str) -> Vec<Call> {
                 let method = method.split(['(', '<']).next().expect("a name");
                 out.push(Call {
                     krate: krate.to_owned(),
-                    name: method.to_owned(),
+                    name: format!("{name}·{method}"),
                     contract: format!("{path}.{name}.{method}"),
                     lent: Vec::new(),
                 });
@@ -169,6 +173,11 @@ fn calls() -> Vec<Call> {
                     &format!("Rattle.{krate}.proofs.{module}"),
                     &text,
                 ));
+                out.extend(in_traits(
+                    &krate,
+                    &format!("Rattle.{krate}.specs.contracts.{module}"),
+                    &text,
+                ));
             }
         }
     }
@@ -183,7 +192,7 @@ fn calls() -> Vec<Call> {
 
 /// What the theorem must state of a call. `trim` and `as_bytes` give a
 /// reference back, of which its bytes are determined; a function on
-/// what takes text has its contract as a formula. A generic function is
+/// what takes text, or of a trait, has its contract as a formula. A generic function is
 /// determined at each of its parameters, whose laws stand behind them.
 fn expected(call: &Call) -> String {
     let Call {
@@ -201,15 +210,20 @@ fn expected(call: &Call) -> String {
         ("answers", "number-of" | "place-of") => format!(
             "{key} : (T : _) (E : _) (t : _) (e : _) (says : _) (code : _) → Determined ({contract}.Reads.Post T E t e says code)"
         ),
+        ("answers", "count-or-place") => format!(
+            "{key} : (E : _) (e : _) (says : _) (code : _) → Determined ({contract}.Reads.Post E e says code)"
+        ),
         ("writing", "fitted") => format!(
             "{key} : (T : _) (laws : _) (text : _) (dict : _) → Determined₁ ({contract}.Reads.Post T laws text dict) (λ κ x. x.1.0.now)"
         ),
-        ("writing", _) | ("smttext", "name" | "format" | "sort") => {
+        ("writing", _)
+        | ("smttext", "name" | "format" | "sort")
+        | ("answers", "Refusal·number" | "Refusal·place") => {
             let contract = contract.replace(".proofs.", ".specs.contracts.");
-            let given = if name == "write" {
-                "T S text texts sink dict"
-            } else {
-                "S sink dict"
+            let given = match name.as_str() {
+                "Text·write" => "T S text texts sink dict",
+                "Refusal·number" | "Refusal·place" => "E says code",
+                _ => "S sink dict",
             };
             let bound: String = given.split(' ').map(|g| format!("({g} : _) ")).collect();
             format!(
@@ -241,6 +255,7 @@ fn stated(theorem: &str, call: &Call) -> bool {
     let proof = [
         format!(" {name} κ "),
         format!(" {name} T "),
+        format!(" {name} E "),
         format!(" {name} N "),
         " unfolding ".to_owned(),
     ];
@@ -285,15 +300,15 @@ fn another_statement_is_reported() {
         said("proofs.bv_xor.Reads", "proofs.bv_and.Reads"),
         ["exprs::bv_xor"]
     );
-    let lift = "lifter.proofs.lift.Reads.Post (λ κ x. x.0.now)";
-    let lent = " (λ κ x. x.1.0.now)";
-    assert_eq!(said(&format!("{lift}{lent}"), lift), ["lifter::lift"]);
+    let run = "listing.proofs.run.Reads.Post (λ κ x. x.1.0.now)";
+    let lent = " (λ κ x. x.1.1.0.now)";
+    assert_eq!(said(&format!("{run}{lent}"), run), ["listing::run"]);
     assert_eq!(
         said(
             "reader.proofs.Reader.take.Reads",
             "reader.proofs.Reader.record_at.Reads"
         ),
-        ["reader::take"]
+        ["reader::Reader·take"]
     );
 }
 

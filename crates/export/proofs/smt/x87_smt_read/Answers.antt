@@ -7,4 +7,4 @@ pub returns-then-out-ge1 : goal.returns-then-out-ge1
 unfolding laid
 returns-then-out-ge1 c =
     let k = c.read-t in
-    answered c.if-out-ge1.true k.result k.ensures c.reading_number.ensures c.reading_place.ensures refl
+    answered c.if-out-ge1.true k.result k.ensures c.number_of.ensures c.count_or_place.ensures refl

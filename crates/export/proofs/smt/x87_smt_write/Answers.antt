@@ -9,6 +9,6 @@ returns-then-out-ge1 c =
     let e = c.write-w.ensures in
     let h = c.if-out-ge1.true in
     record {
-      told = tells _ _ _ h (rw e.answer at c.text_number.ensures) (rw (← e.answer, ← c.text_place.ensures));
+      told = tells _ _ _ h (rw e.answer at c.number_of.ensures) (rw (← e.answer, ← c.count_or_place.ensures));
       bytes = rw (le-leb _ _ h, ← e.answer) e.bytes;
     }
