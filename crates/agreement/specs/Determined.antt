@@ -600,6 +600,9 @@ needs·mark κ a r s x y p q = (refl, one p q)
 
 -- evaluator
 
+pub evaluator·from : Determined Rattle.evaluator.proofs.EvalErrorFromCheckError.from.Reads.Post
+evaluator·from κ a r s x y = one
+
 pub evaluator·check : Determined Rattle.evaluator.proofs.check.Reads.Post
 evaluator·check κ a r s x y = one
 
@@ -610,6 +613,9 @@ pub evaluator·fill : Determined₁ Rattle.evaluator.proofs.table.fill.Reads.Pos
 evaluator·fill κ a r s x y = tables
 
 -- smtwriter
+
+pub smtwriter·from : Determined Rattle.smtwriter.proofs.WriteErrorFromCheckError.from.Reads.Post
+smtwriter·from κ a r s x y = one
 
 pub smtwriter·write : Determined₁ Rattle.smtwriter.proofs.write.Reads.Post (λ κ x. x.1.1.1.0.now)
 smtwriter·write κ a r s x y = written

@@ -129,15 +129,18 @@ fn in_traits(krate: &str, path: &str, text: &str) -> Vec<Call> {
     out
 }
 
-/// The operators of the words and their making from one: their promises are
-/// the ghost members that they give to std's traits.
-const OPERATORS: [&str; 6] = [
-    "WideBitAnd.bitand",
-    "WideBitOr.bitor",
-    "WideBitXor.bitxor",
-    "WideShlU64.shl",
-    "WideShrU64.shr",
-    "WideFromU64.from",
+/// The operators of the words, their making from one, and an error's making
+/// from that of the check: their promises are the ghost members that they give
+/// to std's traits.
+const OPERATORS: [(&str, &str); 8] = [
+    ("words", "WideBitAnd.bitand"),
+    ("words", "WideBitOr.bitor"),
+    ("words", "WideBitXor.bitxor"),
+    ("words", "WideShlU64.shl"),
+    ("words", "WideShrU64.shr"),
+    ("words", "WideFromU64.from"),
+    ("evaluator", "EvalErrorFromCheckError.from"),
+    ("smtwriter", "WriteErrorFromCheckError.from"),
 ];
 
 /// The static library.
@@ -181,10 +184,10 @@ fn calls() -> Vec<Call> {
             }
         }
     }
-    out.extend(OPERATORS.iter().map(|operator| Call {
-        krate: "words".to_owned(),
+    out.extend(OPERATORS.iter().map(|(krate, operator)| Call {
+        krate: (*krate).to_owned(),
         name: operator.split('.').next_back().expect("a name").to_owned(),
-        contract: format!("Rattle.words.proofs.{operator}"),
+        contract: format!("Rattle.{krate}.proofs.{operator}"),
         lent: Vec::new(),
     }));
     out
