@@ -36,7 +36,7 @@ fn classify_in(flat: &[u8], out: &mut [u64]) -> u32
     let answer = forms::classify(&insn);
     let w = answers::fields(answer);
     lay(out, &w);
-    answers::number(answer)
+    answers::number(&answer)
 }
 
 // Classifies the instruction that stands in the first 177 bytes, and tells its form's eight words.
@@ -61,7 +61,7 @@ pub fn x87_why(flat: &[u8], out: &mut [u64]) -> u32
     if 1 <= out.len() {
         if 177 <= flat.len() {
             let insn = flat::read(flat);
-            let answer = answers::number(forms::classify(&insn));
+            let answer = answers::number(&forms::classify(&insn));
             if answer == 1 {
                 out[0] = details::number(details::why(&insn)) as u64;
                 return 1;
@@ -84,7 +84,7 @@ fn effect_in(flat: &[u8], out: &mut [u64]) -> u32
     let answer = forms::x87_effect(&insn);
     let w = answers::effect_fields(answer);
     lay(out, &w);
-    answers::effect_number(answer)
+    answers::number(&answer)
 }
 
 // Tells the seven flags of what the instruction touches.

@@ -7,4 +7,4 @@ pub returns : goal.returns
 unfolding affected
 returns c =
     let q = rw c.read-insn.ensures at c.x87_effect-answer.ensures in
-    rw (le-leb _ _ c.requires.0) (tells _ _ _ c.requires.1 (rw q at c.effect_number.ensures) (rw (← q, ← c.effect_fields-w.ensures) c.lay.ensures))
+    rw (le-leb _ _ c.requires.0) (tells _ _ _ c.requires.1 (rw q at c.number.ensures) (rw (← q, ← c.effect_fields-w.ensures) c.lay.ensures))
