@@ -7,7 +7,7 @@ use Rattle.std.proofs.Common.{arith}
 use Rattle.texts.specs.Bytes.{all}
 use Rattle.forms.specs.Classify.{classify_of}
 use Rattle.forms.specs.Effects.{effect_of}
-use Rattle.forms.specs.Numbers.{number_of, fields_of, effect_number, effect_fields}
+use Rattle.forms.specs.Numbers.{number_of, fields_of, effect_fields}
 use Rattle.forms.specs.Classify.{Classified}
 use Rattle.forms.specs.declared.BadInstruction.TheVariants as bad
 use Rattle.forms.specs.Effects.{Affected}
@@ -54,7 +54,7 @@ form-zeros (Ok None) h = refl
 form-zeros (Err bad.Text) h = refl
 form-zeros (Err bad.Operands) h = refl
 
-effect-zeros : (a : Affected) → Zeros 7 (record { number = effect_number a; words = effect_fields a })
+effect-zeros : (a : Affected) → Zeros 7 (record { number = number_of a; words = effect_fields a })
 effect-zeros (Ok (Some e)) h = absurd (h refl)
 effect-zeros (Ok None) h = refl
 effect-zeros (Err bad.Text) h = refl

@@ -652,14 +652,11 @@ smtreader·read κ a r s x y = one-reading a.0.now a.1.0.now x.1.0.now y.1.0.now
 
 -- answers
 
-pub answers·number : Determined Rattle.answers.proofs.number.Reads.Post
-answers·number κ a r s x y = one
+pub answers·number : (T : _) (t : _) → Determined (Rattle.answers.proofs.number.Reads.Post T t)
+answers·number T t κ a r s x y = one
 
 pub answers·fields : Determined Rattle.answers.proofs.fields.Reads.Post
 answers·fields κ a r s x y = one
-
-pub answers·effect-number : Determined Rattle.answers.proofs.effect_number.Reads.Post
-answers·effect-number κ a r s x y = one
 
 pub answers·effect-fields : Determined Rattle.answers.proofs.effect_fields.Reads.Post
 answers·effect-fields κ a r s x y = one

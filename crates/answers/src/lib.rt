@@ -83,11 +83,11 @@ fn words(form: Form) -> [u64; 8]
     }
 }
 
-// The answer's number, and the form's words: zeros beside a decline and a refusal.
-pub fn number(c: Classified) -> u32
-    ensures { result ≡ forms.number_of c }
+// The number of an answer on a form or an effect.
+pub fn number<T>(r: &Result<Option<T>, BadInstruction>) -> u32
+    ensures { result ≡ forms.number_of r.now }
 {
-    match c {
+    match r {
         Ok(Some(_)) => 0,
         Ok(None) => 1,
         Err(BadInstruction::Text) => 3,
@@ -95,6 +95,7 @@ pub fn number(c: Classified) -> u32
     }
 }
 
+// The form's words: zeros beside a decline and a refusal.
 pub fn fields(c: Classified) -> [u64; 8]
     ensures { result ≡ forms.fields_of c }
 {
@@ -102,17 +103,6 @@ pub fn fields(c: Classified) -> [u64; 8]
         Ok(Some(f)) => words(f),
         Ok(None) => [0; 8],
         Err(_) => [0; 8],
-    }
-}
-
-pub fn effect_number(a: Affected) -> u32
-    ensures { result ≡ forms.effect_number a }
-{
-    match a {
-        Ok(Some(_)) => 0,
-        Ok(None) => 1,
-        Err(BadInstruction::Text) => 3,
-        Err(BadInstruction::Operands) => 4,
     }
 }
 

@@ -4,7 +4,7 @@ use Rattle.forms.specs.declared.Instruction.{Instruction}
 use Rattle.forms.specs.Classify.{classify_of}
 use Rattle.forms.specs.Effects.{effect_of}
 use Rattle.details.specs.Why.{detail_of}
-use Rattle.forms.specs.Numbers.{bit, number_of, fields_of, effect_number, effect_fields}
+use Rattle.forms.specs.Numbers.{bit, number_of, fields_of, effect_fields}
 use Rattle.records.specs.Numbers as records
 use Rattle.records.specs.Reading.{Reading, got, bad}
 use Rattle.export.specs.Flat.{insn_of, flat_of, laid, at_least}
@@ -40,7 +40,7 @@ reasoned flat =
 unfoldable pub affected : List ℕ → Said
 affected flat =
     cond (at_least 177 flat)
-    (record { number = effect_number (effect_of (insn_of flat)); words = effect_fields (effect_of (insn_of flat)) })
+    (record { number = number_of (effect_of (insn_of flat)); words = effect_fields (effect_of (insn_of flat)) })
     (too_short 7)
 
 abbrev pub Classifies : List ℕ → List ℕ → ℕ → List ℕ → Type 0

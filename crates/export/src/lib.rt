@@ -1,4 +1,5 @@
 // What Rust calls, on numbers and slices: classify, effect, the reader of records, the lifter, the image, the sort check, the evaluator and the writer of a root's text.
+// Answers are the numbers of the manual, section 7, since C is given them; 10 is 'too short'.
 #![tactic(auto)]
 
 mod flat;
@@ -27,6 +28,21 @@ pub(crate) fn lay(out: &mut [u64], w: &[u64])
     out[..w.len()].copy_from_slice(w);
 }
 
+<<<<<<< HEAD
+=======
+// Classifies the instruction in bytes that are there, where there is room to tell.
+fn classify_in(flat: &[u8], out: &mut [u64]) -> u32
+    requires { (177 ≤ length flat.now) × (8 ≤ length out.old) }
+    ensures { Classifies flat.now out.old result out.new }
+{
+    let insn = flat::read(flat);
+    let answer = forms::classify(&insn);
+    let w = answers::fields(answer);
+    lay(out, &w);
+    answers::number(&answer)
+}
+
+>>>>>>> G
 // Classifies the instruction that stands in the first 177 bytes, and tells its form's eight words.
 pub fn x87_classify(flat: &[u8], out: &mut [u64]) -> u32
     ensures { Classifies flat.now out.old result out.new }
@@ -47,6 +63,7 @@ pub fn x87_classify(flat: &[u8], out: &mut [u64]) -> u32
 pub fn x87_why(flat: &[u8], out: &mut [u64]) -> u32
     ensures { Reasons flat.now out.old result out.new }
 {
+<<<<<<< HEAD
     if out.len() < 1 {
         return 10;
     }
@@ -60,6 +77,35 @@ pub fn x87_why(flat: &[u8], out: &mut [u64]) -> u32
         out[0] = details::number(details::why(&insn)) as u64;
     }
     answer
+=======
+    if 1 <= out.len() {
+        if 177 <= flat.len() {
+            let insn = flat::read(flat);
+            let answer = answers::number(&forms::classify(&insn));
+            if answer == 1 {
+                out[0] = details::number(details::why(&insn)) as u64;
+                return 1;
+            }
+            out[0] = 0;
+            return answer;
+        }
+        out[0] = 0;
+        return 10;
+    }
+    10
+}
+
+// The effect of the instruction in bytes that are there, where there is room to tell.
+fn effect_in(flat: &[u8], out: &mut [u64]) -> u32
+    requires { (177 ≤ length flat.now) × (7 ≤ length out.old) }
+    ensures { Affects flat.now out.old result out.new }
+{
+    let insn = flat::read(flat);
+    let answer = forms::x87_effect(&insn);
+    let w = answers::effect_fields(answer);
+    lay(out, &w);
+    answers::number(&answer)
+>>>>>>> G
 }
 
 // Tells the seven flags of what the instruction touches.
@@ -169,7 +215,7 @@ pub fn x87_lift(
     lifter::number(outcome)
 }
 
-// Tells the three words beside a record's answer.
+// Tells the three words beside a record's answer: by its number, as told_of has it.
 fn tell(out: &mut [u64], answer: u32, detail: u32, next: usize, at: usize)
     requires { 3 ≤ length out.old }
     ensures { out.new ≡ laid out.old 0 (told_of answer detail next at) }

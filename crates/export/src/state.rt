@@ -5,7 +5,7 @@ ghost use Rattle.export.specs.Lifts.{small_is, low32, state_in, state_words};
 
 use lists::State;
 
-// Whether each of the 13 words is below 2 to the 32.
+// Whether each of the 13 words is below 2 to the 32. A slice of 13 or more and no array, here and below: the state is lent for writing, and what lies behind its 13 words stays.
 pub(crate) fn small(w: &[u64]) -> bool
     requires { 13 ≤ length w.now }
     ensures { result ≡ all small_is (take 13 w.now) }
@@ -13,6 +13,7 @@ pub(crate) fn small(w: &[u64]) -> bool
     w[..13].iter().all(|w| *w < 4294967296)
 }
 
+// A word as a number of 32 bits, as low32 takes any: a word that is over was refused before.
 fn low(w: u64) -> u32
     ensures { result ≡ low32 w }
 {

@@ -1,5 +1,5 @@
 -- The numbers that answers and forms have outside (the manual, sections 4, 7 and 9): those of forms follow the order of the Rust's declarations.
-use Rattle.std.specs.Prelude.{Bool, true, false, List, [], ◌∷◌, ℕ, Some, None, Ok, Err}
+use Rattle.std.specs.Prelude.{Bool, true, false, List, [], ◌∷◌, ℕ, Option, Some, None, Result, Ok, Err}
 use Rattle.forms.specs.declared.X87Arith.{X87Arith}
 use Rattle.forms.specs.declared.X87Arith.TheVariants.{Add, Sub, Mul, Div}
 use Rattle.forms.specs.declared.MemFormat.{MemFormat}
@@ -14,6 +14,7 @@ use Rattle.forms.specs.declared.UnaryOp.{UnaryOp}
 use Rattle.forms.specs.declared.UnaryOp.TheVariants.{Abs, Chs, Sqrt, RoundToIntegral}
 use Rattle.forms.specs.declared.Form.{Form}
 use Rattle.forms.specs.declared.Form.TheVariants.{PushConst, PushMemory, PushSlot, StoreMemory, StoreSlot, Arith, CompareStatus, CompareFlags, ConditionalMove, StoreStatus, Exchange, Unary}
+use Rattle.forms.specs.declared.BadInstruction.{BadInstruction}
 use Rattle.forms.specs.declared.BadInstruction.TheVariants as bad
 use Rattle.forms.specs.Classify.{Classified}
 use Rattle.forms.specs.Effects.{Affected}
@@ -85,9 +86,9 @@ words_of (Unary op) = 12 ∷ unary_number op ∷ 0 ∷ 0 ∷ 0 ∷ 0 ∷ 0 ∷ 0
 abbrev pub no_words : List ℕ
 no_words = 0 ∷ 0 ∷ 0 ∷ 0 ∷ 0 ∷ 0 ∷ 0 ∷ 0 ∷ []
 
--- 0 modelled, 1 declined, 3 and 4 refused
-abbrev pub number_of : Classified → ℕ
-number_of (Ok (Some f)) = 0
+-- of a form or an effect: 0 modelled, 1 declined, 3 and 4 refused
+abbrev pub number_of : {A : Type 0} → Result (Option A) BadInstruction → ℕ
+number_of (Ok (Some x)) = 0
 number_of (Ok None) = 1
 number_of (Err bad.Text) = 3
 number_of (Err bad.Operands) = 4
@@ -104,12 +105,6 @@ flags_of e =
 
 abbrev pub no_flags : List ℕ
 no_flags = 0 ∷ 0 ∷ 0 ∷ 0 ∷ 0 ∷ 0 ∷ 0 ∷ []
-
-abbrev pub effect_number : Affected → ℕ
-effect_number (Ok (Some e)) = 0
-effect_number (Ok None) = 1
-effect_number (Err bad.Text) = 3
-effect_number (Err bad.Operands) = 4
 
 abbrev pub effect_fields : Affected → List ℕ
 effect_fields (Ok (Some e)) = flags_of e

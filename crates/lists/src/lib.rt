@@ -106,7 +106,7 @@ impl LiftCtx<'_> {
         v
     }
 
-    // The next temporary.
+    // The next temporary. As fresh, of another counter: one over both would be lent a counter beside self.
     pub fn temporary(&mut self, bits: u32) -> u32
         ensures { Does (temporary_of self.old.state bits) self.old self.new result }
     {

@@ -210,6 +210,9 @@ fn expected(call: &Call) -> String {
         ("words", "le") => {
             format!("{key} : (N : _) (n : _) → Determined ({contract}.Reads.Post N n)")
         }
+        ("answers", "number") => {
+            format!("{key} : (T : _) (t : _) → Determined ({contract}.Reads.Post T t)")
+        }
         ("answers", "number-of" | "place-of") => format!(
             "{key} : (T : _) (E : _) (t : _) (e : _) (says : _) (code : _) → Determined ({contract}.Reads.Post T E t e says code)"
         ),
