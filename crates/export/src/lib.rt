@@ -28,21 +28,6 @@ pub(crate) fn lay(out: &mut [u64], w: &[u64])
     out[..w.len()].copy_from_slice(w);
 }
 
-<<<<<<< HEAD
-=======
-// Classifies the instruction in bytes that are there, where there is room to tell.
-fn classify_in(flat: &[u8], out: &mut [u64]) -> u32
-    requires { (177 ≤ length flat.now) × (8 ≤ length out.old) }
-    ensures { Classifies flat.now out.old result out.new }
-{
-    let insn = flat::read(flat);
-    let answer = forms::classify(&insn);
-    let w = answers::fields(answer);
-    lay(out, &w);
-    answers::number(&answer)
-}
-
->>>>>>> G
 // Classifies the instruction that stands in the first 177 bytes, and tells its form's eight words.
 pub fn x87_classify(flat: &[u8], out: &mut [u64]) -> u32
     ensures { Classifies flat.now out.old result out.new }
@@ -56,14 +41,13 @@ pub fn x87_classify(flat: &[u8], out: &mut [u64]) -> u32
     };
     let answer = forms::classify(&flat::read(bytes));
     lay(out, &answers::fields(answer));
-    answers::number(answer)
+    answers::number(&answer)
 }
 
 // Tells why the instruction that stands in the first 177 bytes is declined; the answer is that of `x87_classify`.
 pub fn x87_why(flat: &[u8], out: &mut [u64]) -> u32
     ensures { Reasons flat.now out.old result out.new }
 {
-<<<<<<< HEAD
     if out.len() < 1 {
         return 10;
     }
@@ -72,40 +56,11 @@ pub fn x87_why(flat: &[u8], out: &mut [u64]) -> u32
         return 10;
     };
     let insn = flat::read(bytes);
-    let answer = answers::number(forms::classify(&insn));
+    let answer = answers::number(&forms::classify(&insn));
     if answer == 1 {
         out[0] = details::number(details::why(&insn)) as u64;
     }
     answer
-=======
-    if 1 <= out.len() {
-        if 177 <= flat.len() {
-            let insn = flat::read(flat);
-            let answer = answers::number(&forms::classify(&insn));
-            if answer == 1 {
-                out[0] = details::number(details::why(&insn)) as u64;
-                return 1;
-            }
-            out[0] = 0;
-            return answer;
-        }
-        out[0] = 0;
-        return 10;
-    }
-    10
-}
-
-// The effect of the instruction in bytes that are there, where there is room to tell.
-fn effect_in(flat: &[u8], out: &mut [u64]) -> u32
-    requires { (177 ≤ length flat.now) × (7 ≤ length out.old) }
-    ensures { Affects flat.now out.old result out.new }
-{
-    let insn = flat::read(flat);
-    let answer = forms::x87_effect(&insn);
-    let w = answers::effect_fields(answer);
-    lay(out, &w);
-    answers::number(&answer)
->>>>>>> G
 }
 
 // Tells the seven flags of what the instruction touches.
@@ -121,7 +76,7 @@ pub fn x87_effect(flat: &[u8], out: &mut [u64]) -> u32
     };
     let answer = forms::x87_effect(&flat::read(bytes));
     lay(out, &answers::effect_fields(answer));
-    answers::effect_number(answer)
+    answers::number(&answer)
 }
 
 // Reads the record at a place into bytes that are there, where there is room to tell.
