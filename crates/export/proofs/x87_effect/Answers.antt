@@ -14,4 +14,4 @@ unfolding affected
 returns c =
     let f = c.in-Some.ensures.cases in
     let q = rw (insn-front f c.read.ensures) at c.x87_effect-answer.ensures in
-    rw (le-leb _ _ f.enough) (tells _ _ _ c.if-out-lt7.false (rw q at c.effect_number.ensures) (rw (← q, ← c.effect_fields.ensures) c.lay-2.ensures))
+    rw (le-leb _ _ f.enough) (tells _ _ _ c.if-out-lt7.false (rw q at c.number.ensures) (rw (← q, ← c.effect_fields.ensures) c.lay-2.ensures))
