@@ -13,7 +13,7 @@ use Rattle.smtsubset.specs.Subset.{Stopped, rows_are, only-reads, stops-there, w
 use Rattle.smtreader.specs.Counted.{counted-reads}
 use Rattle.smtreader.specs.Text as smtreader
 use Rattle.smtreader.specs.declared.ReadError.{ReadError}
-use Rattle.smtreader.specs.declared.ReadError.TheVariants as not
+use Rattle.smtreader.specs.declared.ReadError.TheVariants as read_error
 use Rattle.smtreader.proofs.Ranks.{rows_long}
 use Rattle.smtreader.specs.Numbers.{number_of, place_of}
 use Rattle.answers.specs.Refusal.{told_of, count_or}
@@ -67,8 +67,8 @@ module _ (x : List ℕ) where
     -- an answer, by its number and the word beside it
     way : (a : Result ℕ ReadError) → smtreader.ReadsText x nodes a nodes_left → Means x nodes (told_of number_of a) (count_or place_of a) nodes_left
     way (Ok k) h = formula k nodes_left (rows-mean k h)
-    way (Err (not.Stop p)) h = rw h.nodes (stopped p (stops-there x p h.stops))
-    way (Err not.Room) h =
+    way (Err (read_error.Stop p)) h = rw h.nodes (stopped p (stops-there x p h.stops))
+    way (Err read_error.Room) h =
         rw h.nodes
         (full (only-reads x h.last h.reads) (λ w m n s. rw (sym (counts h.last h.reads w m n s)) h.many))
 

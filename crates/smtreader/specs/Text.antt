@@ -9,7 +9,7 @@ use Rattle.smtgrammar.specs.Rows.{rows_below}
 use Rattle.smtlive.specs.Apart.{apart}
 use Rattle.smtlive.specs.Full.{full}
 use Rattle.smtreader.specs.declared.ReadError.{ReadError}
-use Rattle.smtreader.specs.declared.ReadError.TheVariants as not
+use Rattle.smtreader.specs.declared.ReadError.TheVariants as read_error
 
 -- n nodes, which fit
 pub record Rows (x old : List ℕ) (n : ℕ) (new : List ℕ) : Type 0 where
@@ -32,8 +32,8 @@ pub record Stopped (x old : List ℕ) (p : ℕ) (new : List ℕ) : Type 0 where
 
 abbrev pub ReadsText : List ℕ → List ℕ → Result ℕ ReadError → List ℕ → Type 0
 ReadsText x old (Ok n) new = Rows x old n new
-ReadsText x old (Err (not.Stop p)) new = Stopped x old p new
-ReadsText x old (Err not.Room) new = Full x old new
+ReadsText x old (Err (read_error.Stop p)) new = Stopped x old p new
+ReadsText x old (Err read_error.Room) new = Full x old new
 
 -- what columns of n entries make of a text: what reading it promises; or they are too short, and nothing is written
 abbrev pub TriesText : List ℕ → List ℕ → ℕ → Option (Result ℕ ReadError) → List ℕ → Type 0
@@ -61,21 +61,21 @@ pub one-reading : (x old l m : List ℕ) (a b : Result ℕ ReadError) → ReadsT
 one-reading x old l m (Ok n) (Ok k) p q =
     let e : n ≡ k = p.count ∙ same_count p.reads q.reads ∙ sym q.count in
     (rw e, p.nodes ∙ rw (e, same p.reads q.reads) (sym q.nodes))
-one-reading x old l m (Ok n) (Err (not.Stop k)) p q = absurd (stopped p.reads q.stops)
-one-reading x old l m (Ok n) (Err not.Room) p q =
+one-reading x old l m (Ok n) (Err (read_error.Stop k)) p q = absurd (stopped p.reads q.stops)
+one-reading x old l m (Ok n) (Err read_error.Room) p q =
     let e = same_count p.reads q.reads in
     let f = p.count in
     let g = p.fits in
     let h = q.many in
     absurd (omega arith)
-one-reading x old l m (Err (not.Stop n)) (Ok k) p q = absurd (stopped q.reads p.stops)
-one-reading x old l m (Err (not.Stop n)) (Err (not.Stop k)) p q = (rw (place p.stops q.stops), p.nodes ∙ sym q.nodes)
-one-reading x old l m (Err (not.Stop n)) (Err not.Room) p q = absurd (stopped q.reads p.stops)
-one-reading x old l m (Err not.Room) (Ok k) p q =
+one-reading x old l m (Err (read_error.Stop n)) (Ok k) p q = absurd (stopped q.reads p.stops)
+one-reading x old l m (Err (read_error.Stop n)) (Err (read_error.Stop k)) p q = (rw (place p.stops q.stops), p.nodes ∙ sym q.nodes)
+one-reading x old l m (Err (read_error.Stop n)) (Err read_error.Room) p q = absurd (stopped q.reads p.stops)
+one-reading x old l m (Err read_error.Room) (Ok k) p q =
     let e = same_count p.reads q.reads in
     let f = q.count in
     let g = q.fits in
     let h = p.many in
     absurd (omega arith)
-one-reading x old l m (Err not.Room) (Err (not.Stop k)) p q = absurd (stopped p.reads q.stops)
-one-reading x old l m (Err not.Room) (Err not.Room) p q = (refl, p.nodes ∙ sym q.nodes)
+one-reading x old l m (Err read_error.Room) (Err (read_error.Stop k)) p q = absurd (stopped p.reads q.stops)
+one-reading x old l m (Err read_error.Room) (Err read_error.Room) p q = (refl, p.nodes ∙ sym q.nodes)
