@@ -2,6 +2,7 @@
 #![tactic(auto)]
 
 pub mod refusal;
+mod smt;
 mod values;
 
 ghost use Rattle.std.specs.Prelude.{◌≡◌, [], ◌∷◌};
