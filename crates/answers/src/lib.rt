@@ -2,6 +2,7 @@
 #![tactic(auto)]
 
 pub mod refusal;
+mod smt;
 mod values;
 
 ghost use Rattle.std.specs.Prelude.{◌≡◌, [], ◌∷◌};
@@ -101,8 +102,7 @@ pub fn fields(c: Classified) -> [u64; 8]
 {
     match c {
         Ok(Some(f)) => words(f),
-        Ok(None) => [0; 8],
-        Err(_) => [0; 8],
+        Ok(None) | Err(_) => [0; 8],
     }
 }
 
@@ -121,12 +121,12 @@ fn flags(e: Effect) -> [u64; 7]
     ]
 }
 
+// The effect's flags: zeros as well.
 pub fn effect_fields(a: Affected) -> [u64; 7]
     ensures { result ≡ forms.effect_fields a }
 {
     match a {
         Ok(Some(e)) => flags(e),
-        Ok(None) => [0; 7],
-        Err(_) => [0; 7],
+        Ok(None) | Err(_) => [0; 7],
     }
 }

@@ -159,9 +159,9 @@ fn declarations(source: &str) -> String {
 /// A source without the lines that name a module of texts.
 fn without_texts(source: &str) -> String {
     let is = |line: &&str| {
-        OF_TEXTS
-            .iter()
-            .any(|name| *line == format!("pub mod {name}") || *line == format!("pub mod {name};"))
+        let plain = line.strip_prefix("pub ").unwrap_or(line);
+        let plain = plain.strip_suffix(';').unwrap_or(plain);
+        OF_TEXTS.iter().any(|name| plain == format!("mod {name}"))
     };
     source
         .lines()
