@@ -3,8 +3,9 @@ use mathlib.Core.Path.{◌≡◌, refl, sym, ◌∙◌, ap}
 use mathlib.Core.List.{List, [], ◌∷◌, ◌++◌, append_assoc}
 use Prim.Native.Nat.{ℕ, zero, suc, ◌+◌, ◌≤◌}
 use native.Mathlib.Omega.{arith}
-use lib.ListN.{length, take, drop, set, length-append}
+use lib.ListN.{length, take, drop, set, length-append, drop_of_length-le}
 use lib.Seq.{length-take-le, get_or-take, drop-drop}
+use Rattle.std.proofs.lemmas.List.{append-nil, take-append-drop}
 use Rattle.std.specs.Array.{IsFirstChunk}
 use Rattle.std.specs.Int.{from_le_bytes, to_le_bytes, w16, w32, w64}
 use Rattle.std.proofs.lemmas.List.Edits.{sets-eq}
@@ -108,3 +109,15 @@ run l m n a b i j k z e p q = rw (sets-append l a b i, z, e, ← p) q
 
 pub run_length : (a b : List ℕ) (i j k : ℕ) → length a ≡ i → length b ≡ j → i + j ≡ k → length (a ++ b) ≡ k
 run_length a b i j k p q e = length-append a b ∙ rw (p, q) e
+
+-- the first k of a list, as they were and written over, in front of the rest
+module _ (k : ℕ) {l b : List ℕ} (f : IsFirstChunk l b k) where
+  pub front-kept : b ++ drop k l ≡ l
+  front-kept = rw f.same (take-append-drop k l)
+
+  pub front-written : (w : List ℕ) {d : List ℕ} → d ≡ laid b 0 w → length w ≡ k → d ++ drop k l ≡ laid l 0 w
+  front-written w e z =
+      let n : length (take k l) ≡ k = length-take-le k l f.enough in
+      let whole : laid (take k l) 0 w ≡ w =
+      sym (laid_over (take k l) w 0 k (omega (arith, n)) z) ∙ ap (λ (r : List ℕ). w ++ r) (drop_of_length-le (take k l) {i = k} (omega (arith, n))) ∙ append-nil w in
+      rw (e, f.same, whole) (laid_over l w 0 k (omega (arith, f.enough)) z)

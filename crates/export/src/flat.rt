@@ -86,10 +86,9 @@ fn put_operand(d: &mut [u8], at: usize, o: Operand)
     put_memory(d, at + 34, o);
 }
 
-// Writes an instruction into the first 177 bytes.
-pub(crate) fn write(d: &mut [u8], i: Instruction)
-    requires { 177 ≤ length d.old }
-    ensures { d.new ≡ laid d.old 0 (flat_of i) }
+// Writes an instruction into 177 bytes.
+pub(crate) fn write(d: &mut [u8; 177], i: Instruction)
+    ensures { (d.new ≡ laid d.old 0 (flat_of i)) × (length (flat_of i) ≡ 177) }
 {
     let [first, second, third] = i.operands;
     put(d, 0, i.address.to_le_bytes());

@@ -79,16 +79,22 @@ pub fn x87_effect(flat: &[u8], out: &mut [u64]) -> u32
     answers::number(&answer)
 }
 
-// Reads the record at a place into bytes that are there, where there is room to tell.
-fn read_in(input: &[u8], at: usize, flat: &mut [u8], out: &mut [u64]) -> u32
-    requires { (177 ≤ length flat.old) × (2 ≤ length out.old) }
+// Reads the record at a place: tells the next place or the offending one and whether a record was read, and writes its instruction.
+pub fn x87_read_record(input: &[u8], at: usize, flat: &mut [u8], out: &mut [u64]) -> u32
     ensures { ReadsRecord (taken_at input.now at) flat.old out.old result flat.new out.new }
 {
+    if out.len() < 2 {
+        return 10;
+    }
+    let Some(bytes) = flat.first_chunk_mut() else {
+        lay(out, &[0; 2]);
+        return 10;
+    };
     let mut reader = Reader::new(input);
     match reader.record_at(at) {
         Ok(Some(insn)) => {
             lay(out, &[reader.at as u64, 1]);
-            flat::write(flat, insn);
+            flat::write(bytes, insn);
             0
         }
         Ok(None) => {
@@ -100,20 +106,6 @@ fn read_in(input: &[u8], at: usize, flat: &mut [u8], out: &mut [u64]) -> u32
             refused.number()
         }
     }
-}
-
-// Reads the record at a place: tells the next place or the offending one and whether a record was read, and writes its instruction.
-pub fn x87_read_record(input: &[u8], at: usize, flat: &mut [u8], out: &mut [u64]) -> u32
-    ensures { ReadsRecord (taken_at input.now at) flat.old out.old result flat.new out.new }
-{
-    if out.len() < 2 {
-        return 10;
-    }
-    if flat.len() < 177 {
-        lay(out, &[0; 2]);
-        return 10;
-    }
-    read_in(input, at, flat, out)
 }
 
 // Lifts what `classify` answered over a state of 13 words, which are written unless the lift is refused, and two lists of rows of four.
