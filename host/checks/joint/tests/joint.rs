@@ -125,9 +125,66 @@ fn joints() -> Vec<Joint> {
         .collect()
 }
 
-/// A source without its functions: types and constants stay, with their
-/// attributes.
+/// A source without its functions and traits: types and constants stay, with
+/// their attributes, and of what is imported the names that they need.
 fn declarations(source: &str) -> String {
+    needed(&without_functions(source))
+}
+
+/// The names that a `use` line brings in.
+fn names(import: &str) -> Vec<&str> {
+    let last = import.rsplit("::").next().expect("a name");
+    last.trim_matches(|c: char| "{};\n ".contains(c))
+        .split(',')
+        .map(str::trim)
+        .filter(|name| !name.is_empty())
+        .collect()
+}
+
+/// Whether a line says nothing of the code: a comment, or what clauses import.
+fn silent(line: &str) -> bool {
+    line.starts_with("//") || line.starts_with("ghost use ")
+}
+
+/// A text without the names that its `use` lines bring in and nothing else in
+/// it says.
+fn needed(source: &str) -> String {
+    let mut parts: Vec<(bool, String)> = Vec::new();
+    let mut open = false;
+    for line in source.lines() {
+        let begins = line.starts_with("use ");
+        if begins || !open {
+            parts.push((begins, String::new()));
+        }
+        let (_, text) = parts.last_mut().expect("a part");
+        text.push_str(line);
+        text.push('\n');
+        open = (open || begins) && !line.ends_with(';');
+    }
+    let said: Vec<&str> = parts
+        .iter()
+        .filter(|(import, text)| !import && !silent(text.trim_start()))
+        .flat_map(|(_, text)| text.split(|c: char| !c.is_alphanumeric() && c != '_'))
+        .collect();
+    parts
+        .iter()
+        .map(|(import, text)| {
+            let kept = |name: &&str| said.contains(name);
+            let all = if *import { names(text) } else { Vec::new() };
+            let some: Vec<&str> = all.iter().copied().filter(|name| kept(&name)).collect();
+            if some.len() == all.len() {
+                text.clone()
+            } else if some.is_empty() {
+                String::new()
+            } else {
+                let path = text.split('{').next().expect("a path");
+                format!("{path}{{{}}};\n", some.join(", "))
+            }
+        })
+        .collect()
+}
+
+fn without_functions(source: &str) -> String {
     let mut out = String::new();
     let mut attributes = String::new();
     let mut inside = false;
@@ -137,7 +194,7 @@ fn declarations(source: &str) -> String {
             .or(line.strip_prefix("pub "))
             .unwrap_or(line);
         let plain = plain.strip_prefix("extern \"C\" ").unwrap_or(plain);
-        inside |= ["fn ", "const fn ", "impl ", "impl<"]
+        inside |= ["fn ", "const fn ", "impl ", "impl<", "trait "]
             .iter()
             .any(|start| plain.starts_with(start));
         if !inside && line.starts_with("#[") {
