@@ -28,5 +28,5 @@ unfolding lifted_of stepped_of step_of laid
 two-calls input flat out at r flat_left out_left i next s n t b e h o w =
     let l : flat_left ≡ laid flat 0 (flat_of i) = w.bytes ∙ rw (o, le-leb _ _ e, le-leb _ _ h) in
     let z : 177 ≤ length flat_left = omega (arith, ap length l, length-sets flat 0 (flat_of i)) in
-    let q : insn_of flat_left ≡ i = ap insn_of l ∙ read_back input flat at next i b e o in
+    let q : insn_of flat_left ≡ i = ap insn_of l ∙ rw o at read_back input flat at b e in
     rw (o, le-leb _ _ z, q) (either-lifted (leb 13 (length s)) _ _)

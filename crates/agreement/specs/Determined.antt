@@ -25,7 +25,8 @@ use Rattle.lifter.specs.declared.Lifted.TheVariants as lifted
 use Rattle.lifter.specs.declared.Refusal as lifter-refusal
 use Rattle.lifter.specs.declared.Refusal.TheVariants as refusal
 use Rattle.writing.specs.Bytes.{decimal, bits}
-use Rattle.writing.specs.Put.{InWords, Wrote}
+use Rattle.writing.specs.Put.{Wrote}
+use Rattle.writing.specs.Laws.{writer_laws}
 use Rattle.writing.specs.Fits.{Fits}
 use Rattle.writing.specs.declared.Writer.{Writer}
 use Rattle.words.specs.Wide.{val}
@@ -211,8 +212,9 @@ runs : {x : Ran} {r s : Stop} {l m l₂ m₂ : List ℕ} → Runs x r l l₂ →
 runs p q = (p.run ∙ sym q.run, p.nodes ∙ sym q.nodes, p.statements ∙ sym q.statements)
 
 -- a writer's place and its bytes
-wrote : {text : List ℕ} {s t u : Writer} → InWords s → Wrote text s t → Wrote text s u → (t.at ≡ u.at) × (t.out.now ≡ u.out.now)
-wrote w p q = let x = p.put w in let y = q.put w in (x.place ∙ sym y.place, x.bytes ∙ sym y.bytes)
+wrote : (text : List ℕ) {s t u : Writer} → Wrote text s t → Wrote text s u → (t.at ≡ u.at) × (t.out.now ≡ u.out.now)
+wrote [] p q = let x = p.none refl in let y = q.none refl in (x.0 ∙ sym y.0, x.1 ∙ sym y.1)
+wrote (b ∷ text) p q = let x = p.put (omega arith) in let y = q.put (omega arith) in (x.place ∙ sym y.place, x.bytes ∙ sym y.bytes)
 
 fitted : {text old l m : List ℕ} {r s : Option ℕ} → Fits text r old l → Fits text s old m → (r ≡ s) × (l ≡ m)
 fitted p q = (p.answer ∙ sym q.answer, p.bytes ∙ sym q.bytes)
@@ -282,6 +284,23 @@ words·Wide·extract κ a r s x y = one
 
 pub words·Wide·concat : Determined Rattle.words.proofs.Wide.concat.Reads.Post
 words·Wide·concat κ a r s x y = one
+
+pub words·lt : Determined Rattle.words.proofs.lt.Reads.Post
+words·lt κ a r s x y = one
+
+pub words·eq : Determined Rattle.words.proofs.eq.Reads.Post
+words·eq κ a r s x y = one
+
+-- .. and the comparisons that are derived
+
+pub words·derived-eq : Determined Rattle.words.proofs.WidePartialEq.eq.Reads.Post
+words·derived-eq κ a r s x y = one
+
+pub words·derived-partial-cmp : Determined Rattle.words.proofs.WidePartialOrd.partial_cmp.Reads.Post
+words·derived-partial-cmp κ a r s x y = one
+
+pub words·derived-cmp : Determined Rattle.words.proofs.WideOrd.cmp.Reads.Post
+words·derived-cmp κ a r s x y = one
 
 pub words·Wide·fits : Determined Rattle.words.proofs.Wide.fits.Reads.Post
 words·Wide·fits κ a r s x y = one
@@ -740,13 +759,25 @@ pub writing·Text·write-says : {M : Type 1} {𝓤 : Ura M} (𝓛 : Logic 𝓤) 
     → (Rattle.writing.specs.contracts.Text.write.clauses T S text texts sink dict 𝓛 memory run κ a).ensures tt t e ≡ (connectives 𝓤).⌜◌⌝ (sink.took (text.text a.0.now) a.1.0.now e.1.0.now)
 writing·Text·write-says 𝓛 T S text texts sink dict memory run κ a t e = refl
 
--- .. of a writer it is `Wrote`
+-- .. of a writer it is `Wrote`, which determines its place and its bytes
 
-pub writing·writer-says : {M : Type 1} {𝓤 : Ura M} (𝓛 : Logic 𝓤) (memory : _) (run : _) (κ : _) (a : _) (t : _) (e : _)
+pub writing·Writer·put-says : {M : Type 1} {𝓤 : Ura M} (𝓛 : Logic 𝓤) (memory : _) (run : _) (κ : _) (a : _) (t : _) (e : _)
     → (Rattle.writing.specs.contracts.WriterSink.put.clauses 𝓛 memory run κ a).ensures tt t e ≡ (connectives 𝓤).⌜◌⌝ (Wrote (a.1.0 ∷ []) a.0.now e.0.now)
-writing·writer-says 𝓛 memory run κ a t e = refl
+writing·Writer·put-says 𝓛 memory run κ a t e = refl
 
-pub writing·wrote : {text : List ℕ} {s t u : Writer} → InWords s → Wrote text s t → Wrote text s u → (t.at ≡ u.at) × (t.out.now ≡ u.out.now)
+pub writing·Writer·all-says : {M : Type 1} {𝓤 : Ura M} (𝓛 : Logic 𝓤) (dict : _) (memory : _) (run : _) (κ : _) (a : _) (t : _) (e : _)
+    → (Rattle.writing.specs.contracts.Sink.all.clauses Writer (record { took = Wrote; laws = writer_laws }) dict 𝓛 memory run κ a).ensures tt t e ≡ (connectives 𝓤).⌜◌⌝ (Wrote (a.1.0.now) a.0.now e.0.now)
+writing·Writer·all-says 𝓛 dict memory run κ a t e = refl
+
+pub writing·Writer·decimal-says : {M : Type 1} {𝓤 : Ura M} (𝓛 : Logic 𝓤) (dict : _) (memory : _) (run : _) (κ : _) (a : _) (t : _) (e : _)
+    → (Rattle.writing.specs.contracts.Sink.decimal.clauses Writer (record { took = Wrote; laws = writer_laws }) dict 𝓛 memory run κ a).ensures tt t e ≡ (connectives 𝓤).⌜◌⌝ (Wrote (decimal a.1.0) a.0.now e.0.now)
+writing·Writer·decimal-says 𝓛 dict memory run κ a t e = refl
+
+pub writing·Writer·binary-says : {M : Type 1} {𝓤 : Ura M} (𝓛 : Logic 𝓤) (dict : _) (memory : _) (run : _) (κ : _) (a : _) (t : _) (e : _)
+    → (Rattle.writing.specs.contracts.Sink.binary.clauses Writer (record { took = Wrote; laws = writer_laws }) dict 𝓛 memory run κ a).ensures tt t e ≡ (connectives 𝓤).⌜◌⌝ (Wrote (bits a.1.1.0 (val a.1.0)) a.0.now e.0.now)
+writing·Writer·binary-says 𝓛 dict memory run κ a t e = refl
+
+pub writing·wrote : (text : List ℕ) {s t u : Writer} → Wrote text s t → Wrote text s u → (t.at ≡ u.at) × (t.out.now ≡ u.out.now)
 writing·wrote = wrote
 
 pub writing·fitted : (T : _) (laws : _) (text : _) (dict : _) → Determined₁ (Rattle.writing.proofs.fitted.Reads.Post T laws text dict) (λ κ x. x.1.0.now)

@@ -54,6 +54,10 @@ operand_at s at =
 unfoldable pub present_at : Bool → List ℕ → ℕ → Reading Operand
 present_at b s at = cond b (operand_at s at) (got absent at)
 
+-- all zeros: what stands for an instruction where none is read
+abbrev pub no_instruction : Instruction
+no_instruction = record { operands = absent ∷ absent ∷ absent ∷ []; count = 0; mnemonic = no_text; address = 0 }
+
 -- address, mnemonic, operand count, operands
 unfoldable pub record_at : List ℕ → ℕ → Reading (Option Instruction)
 record_at s at =

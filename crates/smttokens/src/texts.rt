@@ -1,7 +1,7 @@
 // The text of each choice, held against the front of another.
 #![tactic(auto, unfolding(writing::specs::Bytes::bytes, smttext::specs::Names::name_from, smttext::specs::Names::declared_name, smttext::specs::Names::defined_name, smttext::specs::Names::format_text, smttext::specs::Names::sort_text, smtgrammar::specs::Tokens::line_text, smtgrammar::specs::Tokens::opening_text, smtgrammar::specs::Tokens::mark_text, smtgrammar::specs::Tokens::word_text, smtgrammar::specs::Tokens::node_name, smtgrammar::specs::Tokens::asserted_text, smtgrammar::specs::Tokens::text_at, smtgrammar::specs::Grammar::size_at))]
 
-ghost use Rattle.std.specs.Prelude.{◌≡◌, cond, [], ◌∷◌, ◌++◌, ◌+◌, ◌-◌, ◌<◌, ◌||◌, leb, ltb, eqb, get_or};
+ghost use Rattle.std.specs.Prelude.{◌≡◌, cond, [], ◌∷◌, ◌++◌, ◌+◌, ◌-◌, ◌<◌, ltb, eqb, get_or};
 ghost use Rattle.writing.specs.Bytes.{bytes, decimal};
 ghost use Rattle.smttext.specs.Names.{name_from, format_text, sort_text};
 ghost use Rattle.smtgrammar.specs.Tokens.{line_text, opening_text, mark_text, word_text, node_name, asserted_text, operand_text, text_at};
@@ -18,13 +18,6 @@ fn first_at(t: &Tables, i: usize) -> u64
     ensures { result ≡ get_or t.now.firsts.now i 0 }
 {
     t.firsts.get(i).copied().unwrap_or(0)
-}
-
-// A node of kind k is declared.
-fn is_declared(k: u64) -> bool
-    ensures { result ≡ leb k 5 || eqb k 26 }
-{
-    k <= 5 || k == 26
 }
 
 // The name of node i, of a kind and with a for its first field.

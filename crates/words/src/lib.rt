@@ -3,7 +3,7 @@
 
 pub mod bytes;
 
-ghost use Rattle.std.specs.Prelude.{◌≡◌, ℕ, ◌*◌, ◌/◌, ◌%◌, ◌^◌, ltb};
+ghost use Rattle.std.specs.Prelude.{◌≡◌, ℕ, ◌*◌, ◌/◌, ◌%◌, ◌^◌, ltb, eqb};
 ghost use Rattle.std.specs.Int.Bits.{bit_and, bit_or, bit_xor};
 ghost use Rattle.words.specs.Wide.{val, wide_of, extract_of, concat_of};
 
@@ -110,6 +110,19 @@ impl Shl<u64> for Wide {
         }
         Wide::from(0)
     }
+}
+
+// The derived order is that of the numbers, and so is equality: this says it of `<` and of `==`.
+pub fn lt(x: Wide, y: Wide) -> bool
+    ensures { result ≡ ltb (val x) (val y) }
+{
+    x < y
+}
+
+pub fn eq(x: Wide, y: Wide) -> bool
+    ensures { result ≡ eqb (val x) (val y) }
+{
+    x == y
 }
 
 impl Wide {

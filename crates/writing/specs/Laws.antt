@@ -1,8 +1,7 @@
 -- Text that is written one part after the other.
-use Rattle.std.specs.Prelude.{◌≡◌, refl, Bool, true, false, cond, List, [], ◌∷◌, ◌++◌, ℕ, zero, suc, ◌+◌, ◌-◌, ◌/◌, ◌%◌, ◌≤◌, ◌<◌, min, ltb, length, set, take, drop}
-use Rattle.std.proofs.Common.{sym, ap, ◌∙◌, ⊎_elim, add-zero, eq-zero-or-pos, arith, length-append, length-take, take-append-drop, drop-drop, append_assoc}
-use Rattle.std.proofs.lemmas.List.Edits.{sets, sets-eq}
-use Rattle.std.proofs.Math.ListN.{drop_of_length-le}
+use Rattle.std.specs.Prelude.{◌≡◌, refl, Bool, true, false, cond, List, [], ◌∷◌, ◌++◌, ℕ, zero, suc, ◌+◌, ◌-◌, ◌/◌, ◌%◌, ◌≤◌, ◌<◌, min, ltb, length, set}
+use Rattle.std.proofs.Common.{sym, ap, ◌∙◌, ⊎_elim, add-zero, append-nil, eq-zero-or-pos, arith, length-append}
+use Rattle.std.proofs.lemmas.List.Edits.{sets}
 use Rattle.std.proofs.Math.Seq.{length-sets, set_out}
 use Rattle.writing.specs.Bytes.{digits}
 use Rattle.writing.specs.Put.{Counted, Put, Wrote, largest}
@@ -29,32 +28,6 @@ sets-min l i m a h =
     (λ (q : 0 < i - m). sets-out l (min i m) a (omega arith) ∙ sym (sets-out l i a (omega arith)))
     (eq-zero-or-pos (i - m))
 
--- bytes that are stored from a place on, as many as there is room for
-module _ (l a : List ℕ) where
-  enough : (i n : ℕ) → n ≡ min (length a) (length l - i) → i ≤ length l → sets l i (take n a) ≡ sets l i a
-  enough i n e h =
-      let k : length (take n a) ≡ n = omega (arith, length-take n a) in
-      sym (ap (sets l i) (sym (take-append-drop n a)) ∙ sets-append l (take n a) (drop n a) i ∙
-      ⊎_elim
-      (λ (q : length a - n ≡ 0). let z : drop n a ≡ [] = drop_of_length-le a {i = n} (omega arith) in rw z)
-      (λ (q : 0 < length a - n). sets-out (sets l i (take n a)) (i + length (take n a)) (drop n a) (omega (arith, length-sets l i (take n a))))
-      (eq-zero-or-pos (length a - n)))
-
-  pub sets-room : (i p n : ℕ) → p ≡ min i (length l) → n ≡ min (length a) (length l - p) → take p l ++ (take n a ++ drop (p + n - p) (drop p l)) ≡ sets l i a
-  sets-room i p n e f =
-      let m : p + n - p ≡ n = omega arith in
-      ⊎_elim
-      (λ (q : length l - i ≡ 0).
-      let z : n ≡ 0 = omega arith in
-      rw (m, z) (take-append-drop p l ∙ sym (sets-out l i a (omega arith))))
-      (λ (q : 0 < length l - i).
-      let k : p ≡ i = omega arith in
-      let t : length (take n a) ≡ n = omega (arith, length-take n a) in
-      let w : sets l i (take n a) ≡ take i l ++ (take n a ++ drop (i + length (take n a)) l) =
-      sets-eq (take n a) l i (omega arith) ∙ append_assoc (take i l) (take n a) (drop (i + length (take n a)) l) in
-      rw (m, k, drop-drop n i l) (sym (rw t at w) ∙ enough i n (rw k at f) (omega arith)))
-      (eq-zero-or-pos (length l - i))
-
 -- one part, and then another
 module _ {a b : List ℕ} {at p r : ℕ} {l l' l'' : List ℕ} where
   both : Put a at p l l' → Put b p r l' l'' → Put (a ++ b) at r l l''
@@ -65,18 +38,22 @@ module _ {a b : List ℕ} {at p r : ℕ} {l l' l'' : List ℕ} where
         room = x.room;
       }
 
--- no length changes
-long : {a : List ℕ} {at r : ℕ} {l l' : List ℕ} → Put a at r l l' → length l' ≡ length l
-long {a} {at} {l = l} x = ap length x.bytes ∙ length-sets l at a
-
-nothing : (s : Writer) → Wrote [] s s
-nothing s = record { put = λ w. record { place = omega arith; bytes = refl; room = w.1 }; same = refl }
-
-then : {a b : List ℕ} {s t u : Writer} → Wrote a s t → Wrote b t u → Wrote (a ++ b) s u
-then x y = record { put = λ w. let p = x.put w in both p (y.put (omega (arith, p.place), omega (arith, long p, w.1))); same = y.same ∙ x.same }
+-- a text and then another, of which each may be empty
+follow : (a b : List ℕ) {s t u : Writer} → Wrote a s t → Wrote b t u → Wrote (a ++ b) s u
+follow [] b x y =
+    let z = x.none refl in
+    record { put = λ l. rw (← z.0, ← z.1) (y.put l); none = λ l. let w = y.none l in (w.0 ∙ z.0, w.1 ∙ z.1); same = y.same ∙ x.same }
+follow (c ∷ a) [] x y =
+    let z = y.none refl in
+    record { put = λ l. rw (append-nil, z.0, z.1) (x.put (omega arith)); none = λ l. absurd (omega arith); same = y.same ∙ x.same }
+follow (c ∷ a) (d ∷ b) x y =
+    record { put = λ l. both (x.put (omega arith)) (y.put (omega arith)); none = λ l. absurd (omega arith); same = y.same ∙ x.same }
 
 pub writer_laws : SinkLaws Wrote
-writer_laws = record { nothing = nothing; then = then }
+writer_laws = record {
+  nothing = λ s. record { put = λ l. absurd (omega arith); none = λ _. (refl, refl); same = refl };
+  then = λ {a} {b} x y. follow a b x y;
+}
 
 pub length_laws : SinkLaws Counted
 length_laws = record {

@@ -14,13 +14,10 @@ pub record Put (text : List ℕ) (at r : ℕ) (old new : List ℕ) : Type 0 wher
   pub bytes : new ≡ sets old at text
   pub room : length old < largest
 
--- a place and a number of bytes are words: so are those of every writer
-abbrev pub InWords : Writer → Type 0
-InWords w = (w.at ≤ largest) × (length w.out.now < largest)
-
--- from a writer's place on the text stands in its bytes, and it is over the same bytes as before
+-- so it is with a writer, and where there is no text its place and bytes are as they were; it is over the same bytes as before
 pub record Wrote (text : List ℕ) (old new : Writer) : Type 0 where
-  pub put : InWords old → Put text old.at new.at old.out.now new.out.now
+  pub put : 0 < length text → Put text old.at new.at old.out.now new.out.now
+  pub none : length text ≡ 0 → (new.at ≡ old.at) × (new.out.now ≡ old.out.now)
   pub same : new.out.ghost_name ≡ old.out.ghost_name
 
 -- a count goes on by the text's length, up to the largest

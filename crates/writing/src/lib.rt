@@ -65,20 +65,12 @@ impl<'a> Sink for Writer<'a> {
 
     ghost laws = { writer_laws };
 
-    // The largest place has none behind it.
+    // The largest place has none behind it. A text is put byte by byte, as the trait has it: its parts are short, and a copy of each would be a call of memmove.
     fn put(&mut self, b: u8) {
         if self.at < self.out.len() {
             self.out[self.at] = b;
         }
         self.at = self.at.saturating_add(1);
-    }
-
-    // As much as there is room for, at once.
-    fn all(&mut self, text: &[u8]) {
-        let at = self.at.min(self.out.len());
-        let n = text.len().min(self.out.len() - at);
-        self.out[at..at + n].copy_from_slice(&text[..n]);
-        self.at = self.at.saturating_add(text.len());
     }
 }
 

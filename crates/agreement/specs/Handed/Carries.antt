@@ -10,7 +10,7 @@ use Rattle.texts.specs.declared.Text.{Text}
 use Rattle.forms.specs.declared.Operand.{Operand}
 use Rattle.forms.specs.declared.Instruction.{Instruction}
 use Rattle.records.specs.Reading.{Reading, got, bad, ◌▹◌, byte_at, tested_at, limited_at, either_at, number_at}
-use Rattle.records.specs.Format.{letters_at, text_at, no_text, register, other, absent, register_at, memory_at, operand_at, present_at, record_at, end_at, taken_at}
+use Rattle.records.specs.Format.{letters_at, text_at, no_text, register, other, absent, register_at, memory_at, operand_at, present_at, no_instruction, record_at, end_at, taken_at}
 use Rattle.records.specs.declared.Refusal.{Refusal}
 use Rattle.records.specs.declared.Refusal.TheVariants.{BadText, BadOperand, BadMark, Short}
 use Rattle.export.specs.Flat.{operand_of}
@@ -73,6 +73,12 @@ Long n l = length l ≡ n
 
 abbrev Any : ℕ → Type 0
 Any v = Unit {0}
+
+-- the instruction that a reading gives: all zeros at the end mark and beside a refusal
+abbrev pub insn_in : Reading (Option Instruction) → Instruction
+insn_in (got (Some i) n) = i
+insn_in (got None n) = no_instruction
+insn_in (bad r p) = no_instruction
 
 -- what is taken fits: a record's instruction does
 abbrev TakenFits : Option Instruction → Type 0
@@ -178,5 +184,15 @@ module _ (s : List ℕ) (b : Bytes s) where
       after Any TakenFits (either_at 0x49 0x45 s n₁) _ (mark-gives 0x49 0x45 n₁) (λ m n₂ q.
       either TakenFits (eqb m 0x49) (record_at s n₂) (end_at s n₂) (record-gives n₂) (end-gives n₂)))
 
-pub taken-fits : (s : List ℕ) (at next : ℕ) (i : Instruction) → Bytes s → taken_at s at ≡ got (Some i) next → InsnFits i
-taken-fits s at next i b e = (subst (Gives TakenFits) e (taken-gives s b at)).value
+no-fits : InsnFits no_instruction
+no-fits =
+    let f = register-fits no_text no_text_fits in
+    record { address = omega arith; mnemonic = no_text_fits; count = omega arith; three = refl; first = f; second = f; third = f }
+
+answered : (m : Reading (Option Instruction)) → Gives TakenFits m → InsnFits (insn_in m)
+answered (got (Some i) n) h = h.value
+answered (got None n) h = no-fits
+answered (bad r p) h = no-fits
+
+pub taken-fits : (s : List ℕ) (at : ℕ) → Bytes s → InsnFits (insn_in (taken_at s at))
+taken-fits s at b = answered (taken_at s at) (taken-gives s b at)

@@ -129,19 +129,111 @@ fn in_traits(krate: &str, path: &str, text: &str) -> Vec<Call> {
     out
 }
 
-/// The operators of the words, their making from one, and an error's making
-/// from that of the check: their promises are the ghost members that they give
-/// to std's traits.
-const OPERATORS: [(&str, &str); 8] = [
-    ("words", "WideBitAnd.bitand"),
-    ("words", "WideBitOr.bitor"),
-    ("words", "WideBitXor.bitxor"),
-    ("words", "WideShlU64.shl"),
-    ("words", "WideShrU64.shr"),
-    ("words", "WideFromU64.from"),
-    ("evaluator", "EvalErrorFromCheckError.from"),
-    ("smtwriter", "WriteErrorFromCheckError.from"),
+/// The operators of the words, those that are derived too, their making from
+/// one, and an error's making from that of the check: their promises are the
+/// ghost members that they give to std's traits. Of each its crate, its name
+/// in the theorem, and its impl's function.
+const OPERATORS: [(&str, &str, &str); 11] = [
+    ("words", "bitand", "WideBitAnd.bitand"),
+    ("words", "bitor", "WideBitOr.bitor"),
+    ("words", "bitxor", "WideBitXor.bitxor"),
+    ("words", "shl", "WideShlU64.shl"),
+    ("words", "shr", "WideShrU64.shr"),
+    ("words", "from", "WideFromU64.from"),
+    ("words", "derived_eq", "WidePartialEq.eq"),
+    ("words", "derived_partial_cmp", "WidePartialOrd.partial_cmp"),
+    ("words", "derived_cmp", "WideOrd.cmp"),
+    ("evaluator", "from", "EvalErrorFromCheckError.from"),
+    ("smtwriter", "from", "WriteErrorFromCheckError.from"),
 ];
+
+/// What a contract that is a formula claims: the call, what its clauses are
+/// given, and the claim.
+const CLAIMS: [(&str, &str, &str, &str); 10] = [
+    (
+        "writing",
+        "Sink·put",
+        "S sink dict",
+        "sink.took (a.1.0 ∷ []) a.0.now e.0.now",
+    ),
+    (
+        "writing",
+        "Sink·all",
+        "S sink dict",
+        "sink.took a.1.0.now a.0.now e.0.now",
+    ),
+    (
+        "writing",
+        "Sink·decimal",
+        "S sink dict",
+        "sink.took (decimal a.1.0) a.0.now e.0.now",
+    ),
+    (
+        "writing",
+        "Sink·binary",
+        "S sink dict",
+        "sink.took (bits a.1.1.0 (val a.1.0)) a.0.now e.0.now",
+    ),
+    (
+        "writing",
+        "Text·write",
+        "T S text texts sink dict",
+        "sink.took (text.text a.0.now) a.1.0.now e.1.0.now",
+    ),
+    (
+        "smttext",
+        "name",
+        "S sink dict",
+        "sink.took (name_from a.1.0 a.1.1.0 a.1.1.1.0) a.0.now e.0.now",
+    ),
+    (
+        "smttext",
+        "format",
+        "S sink dict",
+        "sink.took (format_text a.1.0) a.0.now e.0.now",
+    ),
+    (
+        "smttext",
+        "sort",
+        "S sink dict",
+        "sink.took (sort_text a.1.0) a.0.now e.0.now",
+    ),
+    (
+        "answers",
+        "Refusal·number",
+        "E says code",
+        "t ≡ says.number a.0.now",
+    ),
+    (
+        "answers",
+        "Refusal·place",
+        "E says code",
+        "t ≡ says.place a.0.now",
+    ),
+];
+
+/// What the theorem says besides: of a writer the claim is `Wrote`, at each
+/// function of a sink, and that determines its place and its bytes.
+const OF_A_WRITER: [(&str, &str, &str); 4] = [
+    ("put", "WriterSink.put.clauses 𝓛", "a.1.0 ∷ []"),
+    (
+        "all",
+        "Sink.all.clauses Writer (record { took = Wrote; laws = writer_laws }) dict 𝓛",
+        "a.1.0.now",
+    ),
+    (
+        "decimal",
+        "Sink.decimal.clauses Writer (record { took = Wrote; laws = writer_laws }) dict 𝓛",
+        "decimal a.1.0",
+    ),
+    (
+        "binary",
+        "Sink.binary.clauses Writer (record { took = Wrote; laws = writer_laws }) dict 𝓛",
+        "bits a.1.1.0 (val a.1.0)",
+    ),
+];
+
+const WROTE: &str = "pub writing·wrote : (text : List ℕ) {s t u : Writer} → Wrote text s t → Wrote text s u → (t.at ≡ u.at) × (t.out.now ≡ u.out.now) writing·wrote = ";
 
 /// The static library.
 const EXPORTS: &str = "export_c";
@@ -184,9 +276,9 @@ fn calls() -> Vec<Call> {
             }
         }
     }
-    out.extend(OPERATORS.iter().map(|(krate, operator)| Call {
+    out.extend(OPERATORS.iter().map(|(krate, name, operator)| Call {
         krate: (*krate).to_owned(),
-        name: operator.split('.').next_back().expect("a name").to_owned(),
+        name: (*name).to_owned(),
         contract: format!("Rattle.{krate}.proofs.{operator}"),
         lent: Vec::new(),
     }));
@@ -203,6 +295,13 @@ fn expected(call: &Call) -> String {
     } = call;
     let name = call.name.replace('_', "-");
     let key = format!("pub {krate}·{name}");
+    if let Some((_, _, given, claim)) = CLAIMS.iter().find(|c| c.0 == krate && c.1 == name) {
+        let contract = contract.replace(".proofs.", ".specs.contracts.");
+        let bound: String = given.split(' ').map(|g| format!("({g} : _) ")).collect();
+        return format!(
+            "{key}-says : {{M : Type 1}} {{𝓤 : Ura M}} (𝓛 : Logic 𝓤) {bound}(memory : _) (run : _) (κ : _) (a : _) (t : _) (e : _) → ({contract}.clauses {given} 𝓛 memory run κ a).ensures tt t e ≡ (connectives 𝓤).⌜◌⌝ ({claim}) {krate}·{name}-says 𝓛 {given} memory run κ a t e = refl"
+        );
+    }
     match (krate.as_str(), name.as_str()) {
         ("texts", "trim" | "Text·as-bytes") => {
             format!("{key} : Fixes {contract}.Reads.Post (λ κ r x. r.now)")
@@ -222,20 +321,6 @@ fn expected(call: &Call) -> String {
         ("writing", "fitted") => format!(
             "{key} : (T : _) (laws : _) (text : _) (dict : _) → Determined₁ ({contract}.Reads.Post T laws text dict) (λ κ x. x.1.0.now)"
         ),
-        ("writing", _)
-        | ("smttext", "name" | "format" | "sort")
-        | ("answers", "Refusal·number" | "Refusal·place") => {
-            let contract = contract.replace(".proofs.", ".specs.contracts.");
-            let given = match name.as_str() {
-                "Text·write" => "T S text texts sink dict",
-                "Refusal·number" | "Refusal·place" => "E says code",
-                _ => "S sink dict",
-            };
-            let bound: String = given.split(' ').map(|g| format!("({g} : _) ")).collect();
-            format!(
-                "{key}-says : {{M : Type 1}} {{𝓤 : Ura M}} (𝓛 : Logic 𝓤) {bound}(memory : _) (run : _) (κ : _) (a : _) (t : _) (e : _) → ({contract}.clauses {given} 𝓛 memory run κ a).ensures tt t e ≡ (connectives 𝓤).⌜◌⌝"
-            )
-        }
         _ => {
             let which = ["", "₁", "₂", "₃", "₄"][call.lent.len()];
             let slices: String = call
@@ -266,18 +351,38 @@ fn stated(theorem: &str, call: &Call) -> bool {
         " unfolding ".to_owned(),
     ];
     theorem.split_once(&statement).is_some_and(|(_, rest)| {
-        statement.ends_with('⌝') || proof.iter().any(|start| rest.starts_with(start))
+        statement.ends_with("= refl") || proof.iter().any(|start| rest.starts_with(start))
     })
+}
+
+/// What the theorem does not state of a writer.
+fn unsaid(theorem: &str) -> Vec<String> {
+    let mut out: Vec<String> = OF_A_WRITER
+        .iter()
+        .filter(|(name, clauses, text)| {
+            let bound = if *name == "put" { "" } else { "(dict : _) " };
+            !theorem.contains(&format!(
+                "pub writing·Writer·{name}-says : {{M : Type 1}} {{𝓤 : Ura M}} (𝓛 : Logic 𝓤) {bound}(memory : _) (run : _) (κ : _) (a : _) (t : _) (e : _) → (Rattle.writing.specs.contracts.{clauses} memory run κ a).ensures tt t e ≡ (connectives 𝓤).⌜◌⌝ (Wrote ({text}) a.0.now e.0.now) writing"
+            ))
+        })
+        .map(|(name, ..)| format!("writing::Writer·{name}"))
+        .collect();
+    if !theorem.contains(WROTE) {
+        out.push("writing::wrote".to_owned());
+    }
+    out
 }
 
 /// The calls of which the theorem does not state what it must.
 fn missing(theorem: &str, calls: &[Call]) -> Vec<String> {
     let theorem = plain(theorem);
-    calls
+    let mut out: Vec<String> = calls
         .iter()
         .filter(|call| !stated(&theorem, call))
         .map(|call| format!("{}::{}", call.krate, call.name))
-        .collect()
+        .collect();
+    out.extend(unsaid(&theorem));
+    out
 }
 
 fn theorem() -> String {
@@ -315,6 +420,25 @@ fn another_statement_is_reported() {
             "reader.proofs.Reader.record_at.Reads"
         ),
         ["reader::Reader·take"]
+    );
+    assert_eq!(
+        said(
+            "(sink.took (decimal a.1.0) a.0.now",
+            "(sink.took (decimal a.1.1.0) a.0.now"
+        ),
+        ["writing::Sink·decimal"]
+    );
+    assert_eq!(
+        said("(Wrote (a.1.0.now) a.0", "(Wrote ([]) a.0"),
+        ["writing::Writer·all"]
+    );
+    assert_eq!(
+        said("pub writing·wrote :", "pub writing·read :"),
+        ["writing::wrote"]
+    );
+    assert_eq!(
+        said("WidePartialEq.eq.Reads", "WideOrd.cmp.Reads"),
+        ["words::derived_eq"]
     );
 }
 
