@@ -26,9 +26,9 @@ use Rattle.lifter.specs.declared.Refusal as lifter-refusal
 use Rattle.lifter.specs.declared.Refusal.TheVariants as refusal
 use Rattle.writing.specs.Bytes.{decimal, bits}
 use Rattle.writing.specs.Put.{Wrote}
-use Rattle.writing.specs.Laws.{writer_laws}
 use Rattle.writing.specs.Fits.{Fits}
 use Rattle.writing.specs.declared.Writer.{Writer}
+use Rattle.writing.specs.contracts.Writer as writer
 use Rattle.words.specs.Wide.{val}
 use Rattle.listing.specs.Run.{Ran, Runs}
 use Rattle.listing.specs.declared.Stop.{Stop}
@@ -765,17 +765,17 @@ pub writing·Writer·put-says : {M : Type 1} {𝓤 : Ura M} (𝓛 : Logic 𝓤) 
     → (Rattle.writing.specs.contracts.WriterSink.put.clauses 𝓛 memory run κ a).ensures tt t e ≡ (connectives 𝓤).⌜◌⌝ (Wrote (a.1.0 ∷ []) a.0.now e.0.now)
 writing·Writer·put-says 𝓛 memory run κ a t e = refl
 
-pub writing·Writer·all-says : {M : Type 1} {𝓤 : Ura M} (𝓛 : Logic 𝓤) (dict : _) (memory : _) (run : _) (κ : _) (a : _) (t : _) (e : _)
-    → (Rattle.writing.specs.contracts.Sink.all.clauses Writer (record { took = Wrote; laws = writer_laws }) dict 𝓛 memory run κ a).ensures tt t e ≡ (connectives 𝓤).⌜◌⌝ (Wrote (a.1.0.now) a.0.now e.0.now)
-writing·Writer·all-says 𝓛 dict memory run κ a t e = refl
+pub writing·Writer·all-says : {M : Type 1} {𝓤 : Ura M} (𝓛 : Logic 𝓤) (l : _) (dict : _) (memory : _) (run : _) (κ : _) (a : _) (t : _) (e : _)
+    → (Rattle.writing.specs.contracts.Sink.all.clauses (writer.the_row l) (record { took = Wrote }) dict 𝓛 memory run κ a).ensures tt t e ≡ (connectives 𝓤).⌜◌⌝ (Wrote (a.1.0.now) a.0.now e.0.now)
+writing·Writer·all-says 𝓛 l dict memory run κ a t e = refl
 
-pub writing·Writer·decimal-says : {M : Type 1} {𝓤 : Ura M} (𝓛 : Logic 𝓤) (dict : _) (memory : _) (run : _) (κ : _) (a : _) (t : _) (e : _)
-    → (Rattle.writing.specs.contracts.Sink.decimal.clauses Writer (record { took = Wrote; laws = writer_laws }) dict 𝓛 memory run κ a).ensures tt t e ≡ (connectives 𝓤).⌜◌⌝ (Wrote (decimal a.1.0) a.0.now e.0.now)
-writing·Writer·decimal-says 𝓛 dict memory run κ a t e = refl
+pub writing·Writer·decimal-says : {M : Type 1} {𝓤 : Ura M} (𝓛 : Logic 𝓤) (l : _) (dict : _) (memory : _) (run : _) (κ : _) (a : _) (t : _) (e : _)
+    → (Rattle.writing.specs.contracts.Sink.decimal.clauses (writer.the_row l) (record { took = Wrote }) dict 𝓛 memory run κ a).ensures tt t e ≡ (connectives 𝓤).⌜◌⌝ (Wrote (decimal a.1.0) a.0.now e.0.now)
+writing·Writer·decimal-says 𝓛 l dict memory run κ a t e = refl
 
-pub writing·Writer·binary-says : {M : Type 1} {𝓤 : Ura M} (𝓛 : Logic 𝓤) (dict : _) (memory : _) (run : _) (κ : _) (a : _) (t : _) (e : _)
-    → (Rattle.writing.specs.contracts.Sink.binary.clauses Writer (record { took = Wrote; laws = writer_laws }) dict 𝓛 memory run κ a).ensures tt t e ≡ (connectives 𝓤).⌜◌⌝ (Wrote (bits a.1.1.0 (val a.1.0)) a.0.now e.0.now)
-writing·Writer·binary-says 𝓛 dict memory run κ a t e = refl
+pub writing·Writer·binary-says : {M : Type 1} {𝓤 : Ura M} (𝓛 : Logic 𝓤) (l : _) (dict : _) (memory : _) (run : _) (κ : _) (a : _) (t : _) (e : _)
+    → (Rattle.writing.specs.contracts.Sink.binary.clauses (writer.the_row l) (record { took = Wrote }) dict 𝓛 memory run κ a).ensures tt t e ≡ (connectives 𝓤).⌜◌⌝ (Wrote (bits a.1.1.0 (val a.1.0)) a.0.now e.0.now)
+writing·Writer·binary-says 𝓛 l dict memory run κ a t e = refl
 
 pub writing·wrote : (text : List ℕ) {s t u : Writer} → Wrote text s t → Wrote text s u → (t.at ≡ u.at) × (t.out.now ≡ u.out.now)
 writing·wrote = wrote

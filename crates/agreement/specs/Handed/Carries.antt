@@ -162,6 +162,11 @@ module _ (s : List ℕ) (b : Bytes s) where
   unfolding present_at
   present-gives t at = either OperandFits t (operand_at s at) (got absent at) (operand-gives at) (got_lem _ _ _ (register-fits no_text no_text_fits))
 
+  no-fits : InsnFits no_instruction
+  no-fits =
+      let f = register-fits no_text no_text_fits in
+      record { address = omega arith; mnemonic = no_text_fits; count = omega arith; three = refl; first = f; second = f; third = f }
+
   record-gives : (at : ℕ) → Gives TakenFits (record_at s at)
   unfolding record_at
   record-gives at =
@@ -184,15 +189,10 @@ module _ (s : List ℕ) (b : Bytes s) where
       after Any TakenFits (either_at 0x49 0x45 s n₁) _ (mark-gives 0x49 0x45 n₁) (λ m n₂ q.
       either TakenFits (eqb m 0x49) (record_at s n₂) (end_at s n₂) (record-gives n₂) (end-gives n₂)))
 
-no-fits : InsnFits no_instruction
-no-fits =
-    let f = register-fits no_text no_text_fits in
-    record { address = omega arith; mnemonic = no_text_fits; count = omega arith; three = refl; first = f; second = f; third = f }
-
-answered : (m : Reading (Option Instruction)) → Gives TakenFits m → InsnFits (insn_in m)
-answered (got (Some i) n) h = h.value
-answered (got None n) h = no-fits
-answered (bad r p) h = no-fits
+  answered : (m : Reading (Option Instruction)) → Gives TakenFits m → InsnFits (insn_in m)
+  answered (got (Some i) n) h = h.value
+  answered (got None n) h = no-fits
+  answered (bad r p) h = no-fits
 
 pub taken-fits : (s : List ℕ) (at : ℕ) → Bytes s → InsnFits (insn_in (taken_at s at))
-taken-fits s at b = answered (taken_at s at) (taken-gives s b at)
+taken-fits s at b = answered s b (taken_at s at) (taken-gives s b at)
