@@ -12,7 +12,7 @@ use Rattle.sorts.specs.declared.CheckError.{CheckError}
 use Rattle.evaluator.specs.Table.{Tables}
 use Rattle.evaluator.specs.Laws.{table-checked, table-sorted}
 use Rattle.needs.specs.Needed.{marks, marked_from}
-use Rattle.needs.specs.Laws.{same-marks, clear}
+use Rattle.needs.specs.Laws.{same-marks}
 use Rattle.writing.specs.Fits.{Fits}
 use Rattle.smttext.specs.Text.{on, part, text_by, text_of}
 use Rattle.smttext.specs.declared.Part.{Part}

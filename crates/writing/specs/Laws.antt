@@ -1,7 +1,9 @@
 -- Text that is written one part after the other.
-use Rattle.std.specs.Prelude.{◌≡◌, refl, Bool, true, false, cond, List, [], ◌∷◌, ◌++◌, ℕ, zero, suc, ◌+◌, ◌-◌, ◌/◌, ◌%◌, ◌≤◌, ◌<◌, min, ltb, length, set}
-use Rattle.std.proofs.Common.{sym, ap, ◌∙◌, ⊎_elim, add-zero, append-nil, eq-zero-or-pos, arith, length-append}
-use Rattle.std.proofs.lemmas.List.Edits.{sets}
+use Rattle.std.specs.Prelude.{◌≡◌, refl, Bool, true, false, cond, List, [], ◌∷◌, ◌++◌, ℕ, zero, suc, ◌+◌, ◌-◌, ◌/◌, ◌%◌, ◌≤◌, ◌<◌, min, ltb, length, get_or, set, take, drop}
+use Rattle.std.proofs.Common.{sym, ap, ◌∙◌, ⊎_elim, add-zero, append-nil, eq-zero-or-pos, arith, length-append, length-take, take_all, take-append-drop, drop-drop, append_assoc}
+use Rattle.std.proofs.lemmas.List.Edits.{sets, sets-eq}
+use Rattle.std.proofs.lemmas.List.{take_more}
+use Rattle.std.proofs.Math.ListN.{drop_of_length-le}
 use Rattle.std.proofs.Math.Seq.{length-sets, set_out}
 use Rattle.writing.specs.Bytes.{digits}
 use Rattle.writing.specs.Put.{Counted, Put, Wrote, largest}
@@ -28,6 +30,43 @@ sets-min l i m a h =
     (λ (q : 0 < i - m). sets-out l (min i m) a (omega arith) ∙ sym (sets-out l i a (omega arith)))
     (eq-zero-or-pos (i - m))
 
+-- bytes that are stored from a place on, as many as there is room for
+module _ (l a : List ℕ) where
+  enough : (i n : ℕ) → n ≡ min (length a) (length l - i) → i ≤ length l → sets l i (take n a) ≡ sets l i a
+  enough i n e h =
+      let k : length (take n a) ≡ n = omega (arith, length-take n a) in
+      sym (ap (sets l i) (sym (take-append-drop n a)) ∙ sets-append l (take n a) (drop n a) i ∙
+      ⊎_elim
+      (λ (q : length a - n ≡ 0). let z : drop n a ≡ [] = drop_of_length-le a {i = n} (omega arith) in rw z)
+      (λ (q : 0 < length a - n). sets-out (sets l i (take n a)) (i + length (take n a)) (drop n a) (omega (arith, length-sets l i (take n a))))
+      (eq-zero-or-pos (length a - n)))
+
+  pub sets-room : (i p n : ℕ) → p ≡ min i (length l) → n ≡ min (length a) (length l - p) → take p l ++ (take n a ++ drop (p + n - p) (drop p l)) ≡ sets l i a
+  sets-room i p n e f =
+      let m : p + n - p ≡ n = omega arith in
+      ⊎_elim
+      (λ (q : length l - i ≡ 0).
+      let z : n ≡ 0 = omega arith in
+      rw (m, z) (take-append-drop p l ∙ sym (sets-out l i a (omega arith))))
+      (λ (q : 0 < length l - i).
+      let k : p ≡ i = omega arith in
+      let t : length (take n a) ≡ n = omega (arith, length-take n a) in
+      let w : sets l i (take n a) ≡ take i l ++ (take n a ++ drop (i + length (take n a)) l) =
+      sets-eq (take n a) l i (omega arith) ∙ append_assoc (take i l) (take n a) (drop (i + length (take n a)) l) in
+      rw (m, k, drop-drop n i l) (sym (rw t at w) ∙ enough i n (rw k at f) (omega arith)))
+      (eq-zero-or-pos (length l - i))
+
+-- a room that is filled from its front, byte by byte, and whole
+pub fills-more : (r s : List ℕ) (i : ℕ) → i < length s → set (sets r 0 (take i s)) i (get_or s i 0) ≡ sets r 0 (take (i + 1) s)
+fills-more r s i h =
+    let k : 0 + length (take i s) ≡ i = omega (arith, length-take i s) in
+    rw (take_more s i 0 h, sets-append r (take i s) (get_or s i 0 ∷ []) 0, k) refl
+
+pub fills : (r s : List ℕ) (i : ℕ) → length s ≤ i → length r ≡ length s → sets r 0 (take i s) ≡ s
+fills r s i h e =
+    let n : drop (0 + length s) r ≡ [] = drop_of_length-le r {i = 0 + length s} (omega arith) in
+    rw (take_all i s h) (sets-eq s r 0 (omega arith) ∙ rw n (append-nil s))
+
 -- one part, and then another
 module _ {a b : List ℕ} {at p r : ℕ} {l l' l'' : List ℕ} where
   both : Put a at p l l' → Put b p r l' l'' → Put (a ++ b) at r l l''
@@ -37,6 +76,15 @@ module _ {a b : List ℕ} {at p r : ℕ} {l l' l'' : List ℕ} where
         bytes = y.bytes ∙ rw (sets-append l a b at, ← x.bytes, x.place, sets-min l' (at + length a) largest b (omega arith));
         room = x.room;
       }
+
+empty : (a : List ℕ) → length a ≡ 0 → a ≡ []
+empty [] z = refl
+empty (b ∷ a) z = absurd (omega arith)
+
+-- a place is a word, as that of every writer: then no text need be told from an empty one
+pub wrote : {a : List ℕ} {s t : Writer} → s.at ≤ largest → Put a s.at t.at s.out.now t.out.now → t.out.ghost_name ≡ s.out.ghost_name → Wrote a s t
+wrote {a} {s} h x e =
+    record { put = λ _. x; none = λ z. (omega (arith, x.place), x.bytes ∙ rw (empty a z)); same = e }
 
 -- a text and then another, of which each may be empty
 follow : (a b : List ℕ) {s t u : Writer} → Wrote a s t → Wrote b t u → Wrote (a ++ b) s u

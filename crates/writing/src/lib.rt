@@ -65,12 +65,23 @@ impl<'a> Sink for Writer<'a> {
 
     ghost laws = { writer_laws };
 
-    // The largest place has none behind it. A text is put byte by byte, as the trait has it: its parts are short, and a copy of each would be a call of memmove.
+    // The largest place has none behind it.
     fn put(&mut self, b: u8) {
         if self.at < self.out.len() {
             self.out[self.at] = b;
         }
         self.at = self.at.saturating_add(1);
+    }
+
+    // As much as there is room for. By a loop: the parts of a text are short, and copy_from_slice would call memmove for each.
+    fn all(&mut self, text: &[u8]) {
+        let at = self.at.min(self.out.len());
+        let n = text.len().min(self.out.len() - at);
+        let room = &mut self.out[at..at + n];
+        for (i, b) in text[..n].iter().enumerate() {
+            room[i] = *b;
+        }
+        self.at = self.at.saturating_add(text.len());
     }
 }
 

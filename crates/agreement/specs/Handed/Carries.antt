@@ -1,7 +1,7 @@
 -- What a record's reading carries: each number within its bytes, each text of 32 bytes.
 use Rattle.std.specs.Prelude.{◌≡◌, Bool, true, false, cond, ◌||◌, Option, Some, None, List, [], ◌∷◌, leb, ltb, length, get_or, replicate}
 use Rattle.std.proofs.Math.Path.{refl}
-use Rattle.std.proofs.Common.{◌∙◌, ap, subst, pow-suc, arith, leb-true}
+use Rattle.std.proofs.Common.{◌∙◌, ap, pow-suc, arith, leb-true}
 use Prim.Native.Nat.{ℕ, zero, suc, ◌+◌, ◌-◌, ◌^◌, ◌<◌}
 use Rattle.std.proofs.Math.Dec.{eqb}
 use Rattle.std.proofs.Math.ListN.{length-append, length-replicate}
