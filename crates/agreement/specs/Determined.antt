@@ -765,9 +765,9 @@ pub writing·Writer·put-says : {M : Type 1} {𝓤 : Ura M} (𝓛 : Logic 𝓤) 
     → (Rattle.writing.specs.contracts.WriterSink.put.clauses 𝓛 memory run κ a).ensures tt t e ≡ (connectives 𝓤).⌜◌⌝ (Wrote (a.1.0 ∷ []) a.0.now e.0.now)
 writing·Writer·put-says 𝓛 memory run κ a t e = refl
 
-pub writing·Writer·all-says : {M : Type 1} {𝓤 : Ura M} (𝓛 : Logic 𝓤) (l : _) (dict : _) (memory : _) (run : _) (κ : _) (a : _) (t : _) (e : _)
-    → (Rattle.writing.specs.contracts.Sink.all.clauses (writer.the_row l) (record { took = Wrote }) dict 𝓛 memory run κ a).ensures tt t e ≡ (connectives 𝓤).⌜◌⌝ (Wrote (a.1.0.now) a.0.now e.0.now)
-writing·Writer·all-says 𝓛 l dict memory run κ a t e = refl
+pub writing·Writer·all-says : {M : Type 1} {𝓤 : Ura M} (𝓛 : Logic 𝓤) (memory : _) (run : _) (κ : _) (a : _) (t : _) (e : _)
+    → (Rattle.writing.specs.contracts.WriterSink.all.clauses 𝓛 memory run κ a).ensures tt t e ≡ (connectives 𝓤).⌜◌⌝ (Wrote (a.1.0.now) a.0.now e.0.now)
+writing·Writer·all-says 𝓛 memory run κ a t e = refl
 
 pub writing·Writer·decimal-says : {M : Type 1} {𝓤 : Ura M} (𝓛 : Logic 𝓤) (l : _) (dict : _) (memory : _) (run : _) (κ : _) (a : _) (t : _) (e : _)
     → (Rattle.writing.specs.contracts.Sink.decimal.clauses (writer.the_row l) (record { took = Wrote }) dict 𝓛 memory run κ a).ensures tt t e ≡ (connectives 𝓤).⌜◌⌝ (Wrote (decimal a.1.0) a.0.now e.0.now)

@@ -216,11 +216,7 @@ const CLAIMS: [(&str, &str, &str, &str); 10] = [
 /// function of a sink, and that determines its place and its bytes.
 const OF_A_WRITER: [(&str, &str, &str); 4] = [
     ("put", "WriterSink.put.clauses 𝓛", "a.1.0 ∷ []"),
-    (
-        "all",
-        "Sink.all.clauses (writer.the_row l) (record { took = Wrote }) dict 𝓛",
-        "a.1.0.now",
-    ),
+    ("all", "WriterSink.all.clauses 𝓛", "a.1.0.now"),
     (
         "decimal",
         "Sink.decimal.clauses (writer.the_row l) (record { took = Wrote }) dict 𝓛",
@@ -360,7 +356,7 @@ fn unsaid(theorem: &str) -> Vec<String> {
     let mut out: Vec<String> = OF_A_WRITER
         .iter()
         .filter(|(name, clauses, text)| {
-            let bound = if *name == "put" { "" } else { "(l : _) (dict : _) " };
+            let bound = if clauses.starts_with("Writer") { "" } else { "(l : _) (dict : _) " };
             !theorem.contains(&format!(
                 "pub writing·Writer·{name}-says : {{M : Type 1}} {{𝓤 : Ura M}} (𝓛 : Logic 𝓤) {bound}(memory : _) (run : _) (κ : _) (a : _) (t : _) (e : _) → (Rattle.writing.specs.contracts.{clauses} memory run κ a).ensures tt t e ≡ (connectives 𝓤).⌜◌⌝ (Wrote ({text}) a.0.now e.0.now) writing"
             ))
